@@ -1,0 +1,5 @@
+pub mod Refusals
+pub mod Items
+pub mod Stamps
+pub mod Codes
+pub mod Fitting
