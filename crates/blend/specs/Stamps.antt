@@ -22,6 +22,10 @@ Reads-back w q (Err e) = Unit {0}
 unfoldable pub later : ℕ → ℕ → Bool
 later a b = ltb b a
 
+-- the later of two stamps
+abbrev pub later-of : ℕ → ℕ → ℕ
+later-of a b = cond (later b a) b a
+
 -- what every order of stamps keeps: strict, total, 0 first
 pub record Stamp-order (after : ℕ → ℕ → Bool) : Type 0 where
   pub never-itself : (a : ℕ) → after a a ≡ false
