@@ -23,7 +23,7 @@ pub use quantity::Quantity;
 pub use quantity::QuantityBody;
 pub use refusal::Refusal;
 pub use stamp::is_later;
+pub use stamp::later_stamp;
 pub use stamp::sequence_of;
 pub use stamp::stamp_of;
-pub use stamp::stamps_are_ordered;
 pub use stamp::writer_of;

@@ -1,7 +1,7 @@
 // A stamp is a sequence and a writer in 32 bits. Stamp 0 is the blank version's, and no order has it.
 ghost use mathlib.Core.Path.{_≡_};
 ghost use Prim.Native.Nat.{_/_, _%_};
-ghost use Rattle.blend.specs.Stamps.{stamped, Reads-back, later, Stamp-order};
+ghost use Rattle.blend.specs.Stamps.{stamped, Reads-back, later, later-of, Stamp-order};
 use super::refusal::Refusal;
 
 pub const LAST_WRITER: u8 = 15;
@@ -43,9 +43,10 @@ pub fn is_later(a: u32, b: u32) -> bool
     a > b
 }
 
-// The order of stamps is strict and total, and stamp 0 comes first.
-pub fn stamps_are_ordered() -> u8
-    ensures { λ _. ⌜ Stamp-order later ⌝ }
+// The later of two stamps. The order of stamps is strict and total, and stamp 0 comes first.
+pub fn later_stamp(a: u32, b: u32) -> u32
+    ensures value { λ r. ⌜ r ≡ later-of a b ⌝ }
+    ensures order { λ _. ⌜ Stamp-order later ⌝ }
 {
-    0
+    if is_later(b, a) { b } else { a }
 }

@@ -1,12 +1,12 @@
 // Bohlinu: checks order sheets, one item a line, and prints what each line codes to.
 mod sheets;
 
+use sheets::EXAMPLE;
+use sheets::check;
 use std::env;
 use std::error::AnyError;
 use std::fs;
 use std::io;
-use sheets::EXAMPLE;
-use sheets::check;
 
 // One sheet: a file, standard input as -, or the example.
 fn check_input(rt: &LibcRuntime, input: &str) -> Result<(), AnyError> {

@@ -72,7 +72,11 @@ fn summary(rt: &LibcRuntime, progress: &Progress) -> Result<(), AnyError> {
 
 pub(super) fn check(rt: &LibcRuntime, name: &str, text: &str) -> Result<(), AnyError> {
     println!(rt, "sheet: {name}")?;
-    let mut progress = Progress { sheet: Sheet::new(), headed: false, refused: 0 };
+    let mut progress = Progress {
+        sheet: Sheet::new(),
+        headed: false,
+        refused: 0,
+    };
     for (index, line) in text.split('\n').enumerate() {
         let words = tokens(rt.alloc(), line.as_bytes())?;
         let number = index.saturating_add(1);

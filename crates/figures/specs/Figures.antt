@@ -6,6 +6,8 @@ use Rattle.std.specs.declared.option.Option.the-variants.{Some, None}
 use Rattle.std.specs.declared.result.Result.{Result}
 use Rattle.std.specs.declared.result.Result.the-variants.{Ok, Err}
 use Rattle.blend.specs.declared.refusal.Refusal.{Refusal}
+use Rattle.blend.specs.declared.refusal.Refusal.the-variants.{NoBody}
+use Rattle.figures.specs.declared.Worked.{Worked}
 use Rattle.blend.specs.Refusals.{number-of}
 use Rattle.blend.specs.Stamps.{stamped}
 use Rattle.blend.specs.Codes.{coded, quantity-code, line-up-code}
@@ -14,6 +16,11 @@ use Rattle.blend.specs.Codes.{coded, quantity-code, line-up-code}
 abbrev pub refusal-in : Result ℕ Refusal → Option ℕ
 refusal-in (Ok n) = None
 refusal-in (Err e) = Some (number-of e)
+
+-- what the code gives for them
+abbrev pub the-figures : Worked
+the-figures =
+    record { «last_stamp» = Ok 4294967295; quantity = Ok 655363; «line_up» = Ok 16908291; «too_much» = Err NoBody }
 
 pub record Figures : Type 0 where
   -- the last stamp: writer 15, sequence 268,435,455

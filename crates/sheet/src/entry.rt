@@ -1,6 +1,7 @@
 // A line of a sheet: an item and the code of its body.
 ghost use mathlib.Core.Path.{_≡_};
 ghost use Rattle.sheet.specs.Lines.{body-code, quantity-in, line-up-in, card-in, item-in, code-in, entry-in};
+use super::fault::LineFault;
 use blend::Body;
 use blend::CardBody;
 use blend::Kind;
@@ -10,7 +11,6 @@ use blend::Quantity;
 use blend::QuantityBody;
 use blend::TankCard;
 use blend::kind_of;
-use super::fault::LineFault;
 use text::Token;
 use text::Word;
 use text::field;
@@ -36,7 +36,8 @@ fn code_of<B: Body>(body: &B) -> Result<u64, LineFault>
 fn quantity(line: &[Token]) -> Result<u64, LineFault>
     ensures { λ r. ⌜ r ≡ quantity-in (now (line .entry)) ⌝ }
 {
-    let (Some(volume), Some(rate)) = (field(line, 1, Word::Volume), field(line, 3, Word::Rate)) else {
+    let (Some(volume), Some(rate)) = (field(line, 1, Word::Volume), field(line, 3, Word::Rate))
+    else {
         return Err(LineFault::Fields);
     };
     if line.len() != 5 {
@@ -52,16 +53,30 @@ fn quantity(line: &[Token]) -> Result<u64, LineFault>
 fn line_up(line: &[Token]) -> Result<u64, LineFault>
     ensures { λ r. ⌜ r ≡ line-up-in (now (line .entry)) ⌝ }
 {
-    let (Some(source), Some(destination), Some(valves)) = (field(line, 1, Word::From), field(line, 3, Word::To), field(line, 5, Word::Valves)) else {
+    let (Some(source), Some(destination), Some(valves)) = (
+        field(line, 1, Word::From),
+        field(line, 3, Word::To),
+        field(line, 5, Word::Valves),
+    ) else {
         return Err(LineFault::Fields);
     };
     if line.len() != 7 {
         return Err(LineFault::Fields);
     }
-    let (Ok(source), Ok(destination), Ok(valves)) = (u8::try_from(source), u8::try_from(destination), u16::try_from(valves)) else {
+    let (Ok(source), Ok(destination), Ok(valves)) = (
+        u8::try_from(source),
+        u8::try_from(destination),
+        u16::try_from(valves),
+    ) else {
         return Err(LineFault::Body);
     };
-    code_of(&LineUp { source, destination, valves })
+    code_of(
+        &LineUp {
+            source,
+            destination,
+            valves,
+        },
+    )
 }
 
 // The code of a tank card: tank N limit N.

@@ -1,9 +1,9 @@
 // The heading of a sheet: writer N sequence N.
 ghost use mathlib.Core.Path.{_≡_};
 ghost use Rattle.sheet.specs.Headings.{stamp-fault, heading-in};
+use super::fault::LineFault;
 use blend::Refusal;
 use blend::stamp_of;
-use super::fault::LineFault;
 use text::Token;
 use text::Word;
 use text::field;
@@ -31,7 +31,11 @@ pub fn read_heading(line: &[Token]) -> Result<u32, LineFault>
     let Ok(writer) = u8::try_from(writer) else {
         return Err(LineFault::Writer);
     };
-    let sequence = if line.len() == 4 { field(line, 2, Word::Sequence).unwrap_or(0) } else { 0 };
+    let sequence = if line.len() == 4 {
+        field(line, 2, Word::Sequence).unwrap_or(0)
+    } else {
+        0
+    };
     let sequence = u32::try_from(sequence).unwrap_or(0);
     match stamp_of(writer, sequence) {
         Ok(stamp) => Ok(stamp),

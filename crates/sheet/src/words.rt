@@ -4,6 +4,8 @@ ghost use Rattle.std.specs.Of.String.{string-bytes};
 ghost use Rattle.std.specs.Vec.{made};
 ghost use Rattle.sheet.specs.Faults.{number-of, reason-of};
 ghost use Rattle.sheet.specs.Texts.{kind-name, quantity-words, line-up-words, card-words, words-of-kind, body-words, entry-words, refused-line, stamp-words};
+use super::entry::Entry;
+use super::fault::LineFault;
 use blend::Body;
 use blend::CardBody;
 use blend::Kind;
@@ -17,8 +19,6 @@ use blend::sequence_of;
 use blend::writer_of;
 use std::alloc::AllocError;
 use std::alloc::Global;
-use super::entry::Entry;
-use super::fault::LineFault;
 
 // The name of a kind.
 pub fn kind_text(kind: Kind) -> &'static str
@@ -43,7 +43,14 @@ fn quantity_text(heap: Global, x: Option<Quantity>) -> Result<String, AllocError
 fn line_up_text(heap: Global, x: Option<LineUp>) -> Result<String, AllocError>
     ensures { λ r. ⌜ made r (λ s. string-bytes s ≡ line-up-words x) ⌝ }
 {
-    let Some(LineUp { source, destination, valves }) = x else {
+    let Some(
+        LineUp {
+            source,
+            destination,
+            valves,
+        },
+    ) = x
+    else {
         return String::from_str(heap, "no body");
     };
     format!(heap, "from {source} to {destination} valves {valves}")

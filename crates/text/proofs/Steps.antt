@@ -56,12 +56,13 @@ scan-cut line found more start i h s e m =
     let w : List ℕ = take (i - start) (drop start line) in
     let rest : List Token = tokens-from [] (drop (i + 1) line) in
     let step : tokens-from w (drop i line) ≡ token-if w ++ rest =
-        at-drop-more (tokens-from w) line i 0 h ∙
-        ap (λ (x : Bool). cond x (token-if w ++ rest) (tokens-from (w ++ getD line i 0 ∷ []) (drop (i + 1) line))) (sym e)
-    in
-    (omega arith,
-    ap (λ (x : List ℕ). more ++ tokens-from x (drop (i + 1) line)) (nothing-between line (i + 1)) ∙
-    ap (λ (x : List Token). x ++ rest) m ∙ append-assoc found (token-if w) rest ∙ ap (λ (x : List Token). found ++ x) (sym step) ∙ s .1)
+    at-drop-more (tokens-from w) line i 0 h ∙
+    ap (λ (x : Bool). cond x (token-if w ++ rest) (tokens-from (w ++ getD line i 0 ∷ []) (drop (i + 1) line))) (sym e)
+    in (
+      omega arith,
+      ap (λ (x : List ℕ). more ++ tokens-from x (drop (i + 1) line)) (nothing-between line (i + 1)) ∙
+          ap (λ (x : List Token). x ++ rest) m ∙ append-assoc found (token-if w) rest ∙ ap (λ (x : List Token). found ++ x) (sym step) ∙ s .1,
+    )
 
 -- the byte at i belongs to the word
 pub scan-more : (line : List ℕ) (found : List Token) (start i : ℕ) → i < length line → Scanned line found start i →
@@ -70,11 +71,12 @@ scan-more line found start i h s e =
     let w : List ℕ = take (i - start) (drop start line) in
     let longer : take (i + 1 - start) (drop start line) ≡ w ++ getD line i 0 ∷ [] = between-more line start i 0 (s .0) h in
     let step : tokens-from w (drop i line) ≡ tokens-from (w ++ getD line i 0 ∷ []) (drop (i + 1) line) =
-        at-drop-more (tokens-from w) line i 0 h ∙
-        ap (λ (x : Bool). cond x (token-if w ++ tokens-from [] (drop (i + 1) line)) (tokens-from (w ++ getD line i 0 ∷ []) (drop (i + 1) line))) (sym e)
-    in
-    (omega (arith, s .0),
-    ap (λ (x : List ℕ). found ++ tokens-from x (drop (i + 1) line)) longer ∙ ap (λ (x : List Token). found ++ x) (sym step) ∙ s .1)
+    at-drop-more (tokens-from w) line i 0 h ∙
+    ap (λ (x : Bool). cond x (token-if w ++ tokens-from [] (drop (i + 1) line)) (tokens-from (w ++ getD line i 0 ∷ []) (drop (i + 1) line))) (sym e)
+    in (
+      omega (arith, s .0),
+      ap (λ (x : List ℕ). found ++ tokens-from x (drop (i + 1) line)) longer ∙ ap (λ (x : List Token). found ++ x) (sym step) ∙ s .1,
+    )
 
 -- the line is at its end, and so is the last word
 pub scan-all : (line : List ℕ) (found more : List Token) (start i : ℕ) → i ≡ length line → Scanned line found start i →

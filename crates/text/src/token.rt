@@ -8,10 +8,10 @@ ghost use Rattle.std.specs.Results.{isOk};
 ghost use Rattle.std.specs.Vec.{made};
 ghost use Rattle.text.specs.declared.token.Token.the-variants.{Other};
 ghost use Rattle.text.specs.Tokens.{is-blank as blank-byte, token-at, token-if, tokens-of, number-in, is-word, field-at};
-use std::alloc::AllocError;
-use std::alloc::Global;
 use super::number::number_of;
 use super::word::Word;
+use std::alloc::AllocError;
+use std::alloc::Global;
 
 #[derive(Clone, Copy)]
 pub enum Token {
@@ -95,7 +95,11 @@ pub fn tokens(heap: Global, line: &[u8]) -> Result<Vec<Token>, AllocError>
 pub fn token_at(line: &[Token], place: usize) -> Token
     ensures { λ r. ⌜ r ≡ getD (now (line .entry)) place Other ⌝ }
 {
-    if place < line.len() { line[place] } else { Token::Other }
+    if place < line.len() {
+        line[place]
+    } else {
+        Token::Other
+    }
 }
 
 // The number after a word that stands at a place of the line, if both are there.

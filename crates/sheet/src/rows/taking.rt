@@ -3,11 +3,11 @@ ghost use mathlib.Core.Path.{_≡_};
 ghost use mathlib.Core.List.{[]};
 ghost use Rattle.sheet.specs.Lines.{entry-in};
 ghost use Rattle.sheet.specs.Sheets.{items-of, codes-of, taken, items-after, codes-after};
-use blend::has_item;
-use super::Sheet;
 use super::super::entry::Entry;
 use super::super::entry::read_entry;
 use super::super::fault::LineFault;
+use super::Sheet;
+use blend::has_item;
 use text::Token;
 
 impl Sheet {
@@ -16,7 +16,11 @@ impl Sheet {
         ensures items { λ r. ⌜ items-of r ≡ [] ⌝ }
         ensures codes { λ r. ⌜ codes-of r ≡ [] ⌝ }
     {
-        Sheet { items: [0; 8], codes: [0; 8], count: 0 }
+        Sheet {
+            items: [0; 8],
+            codes: [0; 8],
+            count: 0,
+        }
     }
 
     pub fn items(&self) -> &[u8]

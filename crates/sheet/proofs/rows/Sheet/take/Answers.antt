@@ -8,7 +8,7 @@ returns c =
     record {
       answer = search needs;
       items =
-        take-more-set (c .args .self .now .items) (c .args .self .now .count) (c .in-Continue-entry .entry .item) (grind arith);
+          take-more-set (c .args .self .now .items) (c .args .self .now .count) (c .in-Continue-entry .entry .item) (grind arith);
       codes =
-        take-more-set (c .args .self .now .codes) (c .args .self .now .count) (c .in-Continue-entry .entry .code) (grind arith);
+          take-more-set (c .args .self .now .codes) (c .args .self .now .count) (c .in-Continue-entry .entry .code) (grind arith);
     }
