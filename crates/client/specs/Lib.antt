@@ -1,0 +1,2 @@
+pub mod Publish
+pub mod Deep

@@ -1,0 +1,4 @@
+pub mod Trips
+mod Pieces
+mod Stamped
+mod Sending

@@ -1,0 +1,5 @@
+pub mod Faults
+pub mod Family
+pub mod Requests
+pub mod Replies
+pub mod Serving

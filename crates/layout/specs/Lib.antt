@@ -1,0 +1,3 @@
+pub mod Layout
+pub mod Bodies
+pub mod Places

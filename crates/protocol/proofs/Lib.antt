@@ -1,0 +1,11 @@
+pub mod Basics
+pub mod Tests
+pub mod Facts
+pub mod Wanting
+pub mod Inv
+pub mod Orders
+pub mod Reading
+pub mod Steps
+pub mod Intro
+pub mod Whole
+pub mod Example

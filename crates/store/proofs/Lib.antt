@@ -1,0 +1,5 @@
+pub mod Choosing
+pub mod Passing
+pub mod Room
+pub mod Parts
+pub mod Zeros
