@@ -1,0 +1,100 @@
+// The calls of readers.
+ghost use mathlib.Core.Path.{_≡_};
+ghost use Rattle.protocol.specs.Calls.{by-reader, open-read, first-ask, second-ask, take, release};
+ghost use Rattle.protocol.specs.Step.{Step};
+ghost use Rattle.rows.specs.Rules.{rule-of};
+ghost use Rattle.service.specs.Meaning.{meaning, answer, answer-both};
+use super::lists::is_tangled;
+use super::state::Service;
+use naming::Naming;
+use rows::Fault;
+use rows::FaultAtItem;
+use rows::ReadCall;
+use rows::about;
+use rows::later;
+use store::Store;
+
+impl<S: Store, N: Naming> Service<S, N> {
+    // Opens a read of the items; answers how many they are.
+    pub fn open(&mut self, reader: u8, items: &[u8]) -> Result<u8, Fault>
+        ensures { λ r. ⌜ Step (rule-of (N·Naming .marks) (N·Naming .named) (N·Naming .twice)) (meaning (S·Store .view) (now (self .entry))) (by-reader reader (open-read (now (items .entry)))) (answer r) (meaning (S·Store .view) (now (self .exit))) ⌝ }
+    {
+        if reader > 15 {
+            return Err(Fault::Reader);
+        }
+        if self.reads.rows[reader as usize].current.is_some() {
+            return Err(Fault::ReadOpen);
+        }
+        if items.is_empty() || items.len() > 8 {
+            return Err(Fault::List);
+        }
+        if is_tangled(items) {
+            return Err(Fault::Item);
+        }
+        self.reads.rows[reader as usize].open(items);
+        Ok(items.len() as u8)
+    }
+
+    // Asks a place for the last version of its item; answers its stamp.
+    pub fn first_ask(&mut self, reader: u8, place: u8) -> Result<u32, Fault>
+        ensures { λ r. ⌜ Step (rule-of (N·Naming .marks) (N·Naming .named) (N·Naming .twice)) (meaning (S·Store .view) (now (self .entry))) (by-reader reader (first-ask place)) (answer r) (meaning (S·Store .view) (now (self .exit))) ⌝ }
+    {
+        if reader > 15 {
+            return Err(Fault::Reader);
+        }
+        self.reads
+            .rows[reader as usize]
+            .admit::<N>(ReadCall::First(place))?;
+        let item = self.reads.rows[reader as usize].item(place);
+        let version = about(item, self.store.last(item))?;
+        self.reads.rows[reader as usize].keep_first(place, version);
+        Ok(version.0)
+    }
+
+    // Asks a place again for what its first asks want; answers the stamp that is then kept.
+    pub fn second_ask(&mut self, reader: u8, place: u8) -> Result<u32, Fault>
+        ensures { λ r. ⌜ Step (rule-of (N·Naming .marks) (N·Naming .named) (N·Naming .twice)) (meaning (S·Store .view) (now (self .entry))) (by-reader reader (second-ask place)) (answer r) (meaning (S·Store .view) (now (self .exit))) ⌝ }
+    {
+        if reader > 15 {
+            return Err(Fault::Reader);
+        }
+        self.reads
+            .rows[reader as usize]
+            .admit::<N>(ReadCall::Second(place))?;
+        let item = self.reads.rows[reader as usize].item(place);
+        let wanted = self.reads.rows[reader as usize].wanted::<N>(place);
+        let version = about(item, self.store.pick(item, wanted))?;
+        let kept = later(self.reads.rows[reader as usize].kept(place), version);
+        self.reads.rows[reader as usize].keep_second(place, version);
+        Ok(kept.0)
+    }
+
+    // What a place of a finished read shows: stamp and code.
+    pub fn take(&self, reader: u8, place: u8) -> Result<(u32, u64), Fault>
+        ensures { λ r. ⌜ Step (rule-of (N·Naming .marks) (N·Naming .named) (N·Naming .twice)) (meaning (S·Store .view) (now (self .entry))) (by-reader reader (take place)) (answer-both r) (meaning (S·Store .view) (now (self .entry))) ⌝ }
+    {
+        if reader > 15 {
+            return Err(Fault::Reader);
+        }
+        self.reads
+            .rows[reader as usize]
+            .admit::<N>(ReadCall::Take(place))?;
+        let (stamp, code, _) = self.reads.rows[reader as usize].kept(place);
+        Ok((stamp, code))
+    }
+
+    // Ends a read, finished or not; answers how many asks it made.
+    pub fn release(&mut self, reader: u8) -> Result<u8, Fault>
+        ensures { λ r. ⌜ Step (rule-of (N·Naming .marks) (N·Naming .named) (N·Naming .twice)) (meaning (S·Store .view) (now (self .entry))) (by-reader reader release) (answer r) (meaning (S·Store .view) (now (self .exit))) ⌝ }
+    {
+        if reader > 15 {
+            return Err(Fault::Reader);
+        }
+        self.reads
+            .rows[reader as usize]
+            .admit::<N>(ReadCall::Release)?;
+        let asks = self.reads.rows[reader as usize].asks();
+        self.reads.rows[reader as usize].end();
+        Ok(asks)
+    }
+}
