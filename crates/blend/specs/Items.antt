@@ -1,6 +1,6 @@
 -- Items by number: 1 to 99 are quantities, 100 to 199 line-ups, 200 to 255 tank cards.
 use Prim.Native.Nat.{ℕ}
-use mathlib.Core.Bool.{cond}
+use mathlib.Core.Bool.{Bool, false, cond}
 use lib.Dec.{eqb, leb}
 use Rattle.std.specs.declared.option.Option.{Option}
 use Rattle.std.specs.declared.option.Option.the-variants.{Some, None}
@@ -16,3 +16,11 @@ kind-number TankCard = 3
 abbrev pub kind-at : ℕ → Option Kind
 kind-at i =
     cond (eqb i 0) None (cond (leb i 99) (Some Quantity) (cond (leb i 199) (Some LineUp) (cond (leb i 255) (Some TankCard) None)))
+
+abbrev pub same-kind : Option Kind → Kind → Bool
+same-kind None k = false
+same-kind (Some j) k = eqb (kind-number j) (kind-number k)
+
+-- whether an item is of a kind
+abbrev pub of-kind : ℕ → Kind → Bool
+of-kind i k = same-kind (kind-at i) k

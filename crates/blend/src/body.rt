@@ -63,11 +63,17 @@ impl Kind {
 
 // Whether a code is of a body of its item's kind.
 pub fn fits_item(item: u8, code: u64) -> bool
-    ensures value { λ r. ⌜ r ≡ fits item code ⌝ }
-    ensures means { λ r. ⌜ Of-a-body item code r ⌝ }
+    ensures { λ r. ⌜ r ≡ fits item code ⌝ }
 {
     match kind_of(item) {
         None => false,
         Some(kind) => kind.takes(code),
     }
+}
+
+// The same answer by its meaning: yes exactly where some body of the item's kind has the code.
+pub fn is_some_body(item: u8, code: u64) -> bool
+    ensures { λ r. ⌜ Of-a-body item code r ⌝ }
+{
+    fits_item(item, code)
 }

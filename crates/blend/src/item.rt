@@ -1,6 +1,6 @@
 // Items are numbered 1 to 255, and the number says the kind. Item 0 is none.
 ghost use mathlib.Core.Path.{_≡_};
-ghost use Rattle.blend.specs.Items.{kind-number, kind-at};
+ghost use Rattle.blend.specs.Items.{kind-number, kind-at, of-kind};
 
 #[derive(Clone, Copy)]
 pub enum Kind {
@@ -30,5 +30,15 @@ pub fn kind_of(item: u8) -> Option<Kind>
         1..=99 => Some(Kind::Quantity),
         100..=199 => Some(Kind::LineUp),
         200..=255 => Some(Kind::TankCard),
+    }
+}
+
+// Whether the item is of the kind.
+pub fn is_of_kind(item: u8, kind: Kind) -> bool
+    ensures { λ r. ⌜ r ≡ of-kind item kind ⌝ }
+{
+    match kind_of(item) {
+        Some(own) => own.number() == kind.number(),
+        None => false,
     }
 }

@@ -1,6 +1,7 @@
 // A stamp is a sequence and a writer in 32 bits. Stamp 0 is the blank version's, and no order has it.
 ghost use mathlib.Core.Path.{_≡_};
 ghost use Prim.Native.Nat.{_/_, _%_};
+ghost use lib.Dec.{ltb};
 ghost use Rattle.blend.specs.Stamps.{stamped, Reads-back, later, later-of, Stamp-order};
 use super::refusal::Refusal;
 
@@ -36,17 +37,24 @@ pub fn writer_of(stamp: u32) -> u8
     (stamp % 16) as u8
 }
 
-// Whether the first stamp is later than the second: the one place that compares stamps.
-pub fn is_later(a: u32, b: u32) -> bool
-    ensures { λ r. ⌜ r ≡ later a b ⌝ }
+fn exceeds(a: u32, b: u32) -> bool
+    ensures { λ r. ⌜ r ≡ ltb b a ⌝ }
 {
     a > b
 }
 
-// The later of two stamps. The order of stamps is strict and total, and stamp 0 comes first.
-pub fn later_stamp(a: u32, b: u32) -> u32
-    ensures value { λ r. ⌜ r ≡ later-of a b ⌝ }
+// Whether the first stamp is later than the second: the one place that compares stamps. The order is strict and total, and stamp 0 comes
+// first.
+pub fn is_later(a: u32, b: u32) -> bool
+    ensures value { λ r. ⌜ r ≡ later a b ⌝ }
     ensures order { λ _. ⌜ Stamp-order later ⌝ }
+{
+    exceeds(a, b)
+}
+
+// The later of two stamps.
+pub fn later_stamp(a: u32, b: u32) -> u32
+    ensures { λ r. ⌜ r ≡ later-of a b ⌝ }
 {
     if is_later(b, a) { b } else { a }
 }

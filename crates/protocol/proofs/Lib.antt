@@ -8,4 +8,3 @@ pub mod Reading
 pub mod Steps
 pub mod Intro
 pub mod Whole
-pub mod Example

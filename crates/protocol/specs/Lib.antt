@@ -6,4 +6,3 @@ pub mod Refusals
 pub mod Step
 pub mod History
 pub mod Law
-pub mod Example

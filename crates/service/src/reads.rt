@@ -3,9 +3,14 @@ ghost use mathlib.Core.Path.{_≡_};
 ghost use Rattle.protocol.specs.Calls.{by-reader, open-read, first-ask, second-ask, take, release};
 ghost use Rattle.protocol.specs.Step.{Step};
 ghost use Rattle.rows.specs.Rules.{rule-of};
+ghost use Rattle.protocol.specs.State.{read-of};
+ghost use Rattle.protocol.specs.Refusals.{refusal};
 ghost use Rattle.service.specs.Meaning.{meaning, answer, answer-both};
+ghost use Rattle.service.specs.Bodies.{body-shown, Taken};
 use super::lists::is_tangled;
 use super::state::Service;
+use blend::Body;
+use blend::is_of_kind;
 use naming::Naming;
 use rows::Fault;
 use rows::FaultAtItem;
@@ -81,6 +86,29 @@ impl<S: Store, N: Naming> Service<S, N> {
             .admit::<N>(ReadCall::Take(place))?;
         let (stamp, code, _) = self.reads.rows[reader as usize].kept(place);
         Ok((stamp, code))
+    }
+
+    // What a place of a finished read shows, as a body of the kind B: absent for the blank and for a code of no such body.
+    pub fn take_as<B: Body + Drop>(&self, reader: u8, place: u8) -> Result<Option<B>, Fault>
+        ensures { λ r. ⌜ Taken (refusal (rule-of (N·Naming .marks) (N·Naming .named) (N·Naming .twice)) (meaning (S·Store .view) (now (self .entry))) (by-reader reader (take place))) (body-shown (B·Body .kinds) (B·Body .decodes) (read-of (meaning (S·Store .view) (now (self .entry))) reader) place) r ⌝ }
+    {
+        if reader > 15 {
+            return Err(Fault::Reader);
+        }
+        self.reads
+            .rows[reader as usize]
+            .admit::<N>(ReadCall::Take(place))?;
+        if !is_of_kind(self.reads.rows[reader as usize].item(place), B::kind()) {
+            return Err(Fault::Kind);
+        }
+        let (stamp, code, _) = self.reads.rows[reader as usize].kept(place);
+        if stamp == 0 {
+            return Ok(None);
+        }
+        let Some(body) = B::decode(code) else {
+            return Ok(None);
+        };
+        Ok(Some(body))
     }
 
     // Ends a read, finished or not; answers how many asks it made.

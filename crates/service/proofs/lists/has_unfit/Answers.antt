@@ -12,13 +12,13 @@ returns-then-not-fits-item c =
     sym
     (c .loop-k .inv ∙
     unfit-here (c .args .items .now) (c .args .codes .now) (c .loop-k .k) (omega arith) (omega arith)
-    (sym (c .fits-item .ensures .value) ∙ c .if-not-fits-item .taken))
+    (sym (c .fits-item .ensures) ∙ c .if-not-fits-item .taken))
 
 pub loop-k-again : need.loop-k-again
 loop-k-again c =
     c .loop-k .inv ∙
     fit-here (c .args .items .now) (c .args .codes .now) (c .loop-k .k) (omega arith) (omega arith)
-    (sym (c .fits-item .ensures .value) ∙ c .if-not-fits-item .left)
+    (sym (c .fits-item .ensures) ∙ c .if-not-fits-item .left)
 
 pub returns : need.returns
 returns c = sym (c .loop-k .inv ∙ fit-all (c .args .items .now) (c .args .codes .now) (c .loop-k .k) (omega arith))

@@ -1,39 +1,44 @@
 -- The run in which a read overtakes an order, step by step.
-use mathlib.Core.Path.{_≡_, refl, ap}
+use mathlib.Core.Path.{_≡_, refl}
 use mathlib.Core.Logic.{inl, inr}
 use mathlib.Core.List.{List, [], _∷_}
-use mathlib.Core.Bool.{true, cond, not, _&&_}
+use mathlib.Core.Bool.{true, cond, _&&_}
 use Prim.Native.Nat.{ℕ, zero, suc}
 use native.Mathlib.Omega.{arith}
 use lib.Dec.{eqb, lit<}
 use Rattle.std.specs.declared.option.Option.the-variants.{None, Some}
 use Rattle.std.proofs.shelf.Tests.{cases-eq, cond-false, ne-eqb, and-left, and-right}
+use Rattle.naming.proofs.Named.{list-complete}
 use Rattle.blend.specs.Refusals.{first-of}
 use Rattle.blend.specs.Stamps.{later}
 use Rattle.store.specs.Meaning.{View, blank}
 use Rattle.store.specs.Tests.{put-tests}
 use Rattle.store.specs.Outcomes.{Put-done, Commit-done}
 use Rattle.protocol.specs.Naming.{Lawful, Bytes}
 use Rattle.protocol.specs.State.{upd, OpenOrder, State, order-of, read-of}
 use Rattle.protocol.specs.Step.{filed-row, with-order, prepared-at, committed-at, set-writer, set-reader, fresh-read, first-asked, second-asked}
 use Rattle.protocol.specs.History.{opened, with-first, with-second, progress-in}
 use Rattle.protocol.specs.Law.{Trace, start, next}
-use Rattle.protocol.specs.Example.{all-named, example, Read-overtakes}
+use Rattle.figures.specs.Example.{list-rule, example, Read-overtakes}
 use Rattle.protocol.proofs.Basics.{upd-off}
 use Rattle.protocol.proofs.Tests.{finished-to}
 use Rattle.protocol.proofs.Inv.{Held}
 
-lawful : Lawful all-named
+lawful : Lawful list-rule
 lawful = record {
-  complete = λ items long bytes k l. ap not (ne-eqb _ 0 (λ e. omega arith));
+  complete = λ items long bytes k l. list-complete items k long bytes l;
   nonzero = λ mark. refl;
 }
 
 -- ── the store ──
 
+-- the list mark of 5 and 130
+abbrev mark : ℕ
+mark = 396879717162024960
+
 -- with one version more
 abbrev holding : Held → ℕ → ℕ → ℕ → Held
-holding held item stamp code i t = cond (eqb i item && eqb t stamp) (Some (code, 0)) (held i t)
+holding held item stamp code i t = cond (eqb i item && eqb t stamp) (Some (code, mark)) (held i t)
 
 abbrev store : Held → (ℕ → ℕ) → ℕ → View
 store held last room = record { held = held; last = last; space = λ i. room }
@@ -57,15 +62,15 @@ abbrev none : ℕ → ℕ
 none i = 0
 
 other : (held : Held) (item stamp code i t : ℕ) → (i ≡ item → t ≡ stamp → ⊥) → holding held item stamp code i t ≡ held i t
-other held item stamp code i t d = cond-false (eqb i item && eqb t stamp) (Some (code, 0)) (held i t) (elim (cases-eq i item) [
+other held item stamp code i t d = cond-false (eqb i item && eqb t stamp) (Some (code, mark)) (held i t) (elim (cases-eq i item) [
   | inl e ↦ and-right (eqb i item) (eqb t stamp) (ne-eqb t stamp (d e))
   | inr n ↦ and-left (eqb i item) (eqb t stamp) (ne-eqb i item n)
 ])
 
 -- a new version takes one space of every item
-puts : (held : Held) (room item code : ℕ) → first-of (put-tests (store held none (suc room)) item 17 code 0) ≡ None →
-    held item 17 ≡ None → holding held item 17 code item 17 ≡ Some (code, 0) →
-    Put-done (store held none (suc room)) (store (holding held item 17 code) none room) item 17 code 0 true
+puts : (held : Held) (room item code : ℕ) → first-of (put-tests (store held none (suc room)) item 17 code mark) ≡ None →
+    held item 17 ≡ None → holding held item 17 code item 17 ≡ Some (code, mark) →
+    Put-done (store held none (suc room)) (store (holding held item 17 code) none room) item 17 code mark true
 puts held room item code passes absent here = record {
   passes = passes;
   new = rw absent refl;
@@ -118,17 +123,17 @@ abbrev s₅ : State
 s₅ = set-reader s₄ 0 (Some (fresh-read items))
 
 abbrev s₆ : State
-s₆ = set-reader s₅ 0 (Some (first-asked (read-of s₅ 0) 0 (17, 655363, 0)))
+s₆ = set-reader s₅ 0 (Some (first-asked (read-of s₅ 0) 0 (17, 655363, mark)))
 
 abbrev s₇ : State
 s₇ = set-reader s₆ 0 (Some (first-asked (read-of s₆ 0) 1 blank))
 
 abbrev s₈ : State
-s₈ = set-reader s₇ 0 (Some (second-asked (read-of s₇ 0) 1 (17, 16908291, 0)))
+s₈ = set-reader s₇ 0 (Some (second-asked (read-of s₇ 0) 1 (17, 16908291, mark)))
 
 -- ── the run ──
 
-run : Trace all-named s₀ example s₈
+run : Trace list-rule s₀ example s₈
 unfolding later
 run =
     next {s = s₇} {s′ = s₈} (
@@ -168,7 +173,7 @@ read-overtakes = record {
   prepared = (inr (inl (refl, refl)), inl (refl, refl));
   read = with-second 1 (with-first 1 0 (with-first 0 17 (opened items)));
   is-read = refl;
-  finished = finished-to all-named (progress-in all-named example (with-second 1 (with-first 1 0 (with-first 0 17 (opened items))))) refl;
+  finished = finished-to list-rule (progress-in list-rule example (with-second 1 (with-first 1 0 (with-first 0 17 (opened items))))) refl;
   first = (s₈, (refl, (refl, refl), refl));
   second = (s₈, (refl, (refl, refl), refl));
   asks = (set-reader s₈ 0 None, (refl, (refl, refl), refl));

@@ -1,0 +1,5 @@
+pub mod Scans
+pub mod Counts
+pub mod Writes
+pub mod Outcomes
+pub mod Steps
