@@ -14,14 +14,14 @@ use Rattle.std.proofs.shelf.Lists.{getD-set-same, getD-set-other}
 use Rattle.std.proofs.shelf.Tests.{leb-false, not-false}
 use Rattle.blend.specs.Refusals.{first-of}
 use Rattle.store.specs.declared.StoreFault.{StoreFault}
-use Rattle.store.specs.Meaning.{View, Version, picked}
-use Rattle.store.specs.Outcomes.{Put-outcome, Commit-outcome, Answered, Same}
+use Rattle.store.specs.Meaning.{View}
+use Rattle.store.specs.Outcomes.{Put-outcome, Commit-outcome, Same}
 use Rattle.protocol.specs.Naming.{Naming, padded}
 use Rattle.protocol.specs.State.{State, OpenOrder, OrderRow as WriterRow, OpenRead, the-order, the-read, upd}
 use Rattle.protocol.specs.Calls.{Call, refused}
-use Rattle.protocol.specs.Asks.{progress, eight, wanted, all-made, due-second}
-use Rattle.protocol.specs.Refusals.{all-prepared, item-at, code-at, read-item}
-use Rattle.protocol.specs.Step.{Step, with-order, second-version, set-reader}
+use Rattle.protocol.specs.Asks.{progress, all-made, due-second}
+use Rattle.protocol.specs.Refusals.{all-prepared, item-at, code-at}
+use Rattle.protocol.specs.Step.{Step, with-order, set-reader}
 use Rattle.protocol.proofs.Tests.{clear, order-there, read-there}
 use Rattle.protocol.proofs.Basics.{upd-from, upd-set}
 use Rattle.protocol.proofs.Intro.{same-store}
@@ -130,13 +130,6 @@ module _ {S N : Type 0} (view : S → View) (x : Service S N) where
 pub order-set : (row : WriterRow) (f : OpenOrder → OpenOrder) → row .current ≡ Some (the-order (row .current)) →
     with-order row (mapped f (row .current)) ≡ with-order row (Some (f (the-order (row .current))))
 order-set row f e = ap (λ (o : Option OpenOrder). with-order row (mapped f o)) e
-
--- the store's answer to a second ask, for the item and the stamps that the row gave
-pub picked-there : (ν : Naming) (v : View) (x : OpenRead) (p i : ℕ) (l : List ℕ) (u : Version) → i ≡ read-item x p → l ≡ eight (wanted ν (progress x) p) →
-    Answered i (picked (v .held i) l) u → Answered (read-item x p) (second-version ν v x p) u
-picked-there ν v x p i l u e f h =
-    subst (λ (j : ℕ). Answered j (picked (v .held j) (eight (wanted ν (progress x) p))) u) e
-    (subst (λ (m : List ℕ). Answered i (picked (v .held i) m) u) f h)
 
 -- a state with one reader's row changed
 module _ {S N : Type 0} (view : S → View) (x : Service S N) where

@@ -3,7 +3,9 @@ ghost use mathlib.Core.Path.{_≡_};
 ghost use Rattle.protocol.specs.Calls.{by-reader, open-read, first-ask, second-ask, take, release};
 ghost use Rattle.protocol.specs.Step.{Step};
 ghost use Rattle.rows.specs.Rules.{rule-of};
+ghost use Prim.Native.Nat.{_≤_};
 ghost use Rattle.protocol.specs.State.{read-of};
+ghost use Rattle.service.specs.Asking.{Asked-again};
 ghost use Rattle.protocol.specs.Refusals.{refusal};
 ghost use Rattle.service.specs.Meaning.{meaning, answer, answer-both};
 ghost use Rattle.service.specs.Bodies.{body-shown, Taken};
@@ -12,6 +14,7 @@ use super::state::Service;
 use blend::Body;
 use blend::is_of_kind;
 use naming::Naming;
+use rows::AtItem;
 use rows::Fault;
 use rows::FaultAtItem;
 use rows::ReadCall;
@@ -66,12 +69,20 @@ impl<S: Store, N: Naming> Service<S, N> {
         self.reads
             .rows[reader as usize]
             .admit::<N>(ReadCall::Second(place))?;
-        let item = self.reads.rows[reader as usize].item(place);
-        let wanted = self.reads.rows[reader as usize].wanted::<N>(place);
-        let version = about(item, self.store.pick(item, wanted))?;
+        let version = self.ask_again(reader, place)?;
         let kept = later(self.reads.rows[reader as usize].kept(place), version);
         self.reads.rows[reader as usize].keep_second(place, version);
         Ok(kept.0)
+    }
+
+    // Picks among the stamps that a place of the reader's open read wants.
+    fn ask_again(&self, reader: u8, place: u8) -> Result<(u32, u64, u64), AtItem>
+        requires { ⌜ reader ≤ 15 ⌝ }
+        ensures { λ r. ⌜ Asked-again (rule-of (N·Naming .marks) (N·Naming .named) (N·Naming .twice)) (S·Store .view (now (self .entry) .store)) (read-of (meaning (S·Store .view) (now (self .entry))) reader) place r ⌝ }
+    {
+        let item = self.reads.rows[reader as usize].item(place);
+        let wanted = self.reads.rows[reader as usize].wanted::<N>(place);
+        about(item, self.store.pick(item, wanted))
     }
 
     // What a place of a finished read shows: stamp and code.

@@ -7,6 +7,7 @@ mod word;
 pub use number::number_of;
 pub use token::Token;
 pub use token::field;
+pub use token::is_blank;
 pub use token::token_at;
 pub use token::tokens;
 pub use word::Word;

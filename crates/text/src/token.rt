@@ -21,7 +21,7 @@ pub enum Token {
 }
 
 // Space, tab, carriage return.
-fn is_blank(b: u8) -> bool
+pub fn is_blank(b: u8) -> bool
     ensures { λ r. ⌜ r ≡ blank-byte b ⌝ }
 {
     b == 32 || b == 9 || b == 13

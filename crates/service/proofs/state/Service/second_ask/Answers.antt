@@ -5,14 +5,13 @@ use lib.ListN.{length}
 use Rattle.std.specs.declared.option.Option.{Option}
 use Rattle.std.specs.Options.{mapped}
 use Rattle.store.specs.Meaning.{Version}
-use Rattle.store.specs.Outcomes.{Answered, Pick-outcome}
 use Rattle.protocol.specs.State.{OpenRead, the-read}
 use Rattle.protocol.specs.Refusals.{read-item}
 use Rattle.protocol.specs.Step.{second-version, second-asked, later-version}
 use Rattle.protocol.proofs.Intro.{second-in}
 use Rattle.rows.specs.Rules.{rule-of}
 use Rattle.service.specs.Meaning.{meaning}
-use Rattle.service.proofs.Admitted.{may-second, second-made, second-due, was-ok, read-set, picked-there}
+use Rattle.service.proofs.Admitted.{may-second, second-made, second-due, read-set}
 use Rattle.service.proofs.state.Service.second_ask.Needs as need
 
 pub returns : need.returns
@@ -27,11 +26,7 @@ returns g c =
     let pass = c .in-Continue-admit .ensures tt .answer in
     let in-read = may-second ν o p pass in
     let v : Version = c .in-Continue-version .version in
-    let done = was-ok (c .item-item .result) (c .pick .result) v (c .in-Continue-version .ensures tt) in
-    let got : Answered (read-item (the-read o) p) (second-version ν (view (x .store)) (the-read o) p) v =
-    picked-there ν (view (x .store)) (the-read o) p (c .item-item .result) (c .wanted-wanted .result) v (c .item-item .ensures) (c .wanted-wanted .ensures)
-    (subst (Pick-outcome (view (x .store)) (c .item-item .result) (c .wanted-wanted .result)) done (c .pick .ensures))
-    in
+    let got = c .in-Continue-version .ensures tt in
     let h : r < length (x .reads .rows) = grind arith in
     let few : p < 8 = let a = in-read .within in let b = c .in-Continue-admit .ensures tt .few in omega arith in
     second-in ν s _ r (c .if-reader-gt15 .left) (the-read o) (in-read .there) p (in-read .within) (c .later-kept .result .0)

@@ -1,0 +1,11 @@
+use mathlib.Core.Path.{_≡_}
+use mathlib.Core.List.{_++_}
+use lib.ListN.{drop}
+use Rattle.std.specs.Of.String.{string-bytes}
+use Rattle.station.specs.Hex.{pieces}
+use Rattle.station.specs.Words.{spaced}
+use Rattle.station.proofs.words.add_numbers.Given as given
+
+abbrev pub Inv-loop-number : given.InvT-loop-number
+Inv-loop-number l =
+    string-bytes (l .text) ++ pieces spaced (drop (l .number-index) (l .numbers)) ≡ string-bytes (l .entry .text) ++ pieces spaced (l .numbers)
