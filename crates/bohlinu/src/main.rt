@@ -1,24 +1,30 @@
-// Bohlinu: checks order sheets, one item a line, and serves requests to a station, one frame a line.
+// Bohlinu: plays scripts of calls, checks order sheets, and serves request frames to a station.
+mod reports;
+mod scripts;
 mod sheets;
+mod sites;
 mod stations;
 
-use stations::Layout;
-use stations::layout_of;
+use scripts::Rules;
+use scripts::rules_of;
+use sites::Layout;
+use sites::layout_of;
 use std::env;
 use std::error::AnyError;
 use std::fs;
 use std::io;
 
-// What the next word of the command line is: a command, an input of a sheet, the layout of a station, or an input of it.
+// What the next word of the command line is.
 #[derive(Clone, Copy)]
 enum Mode {
     Start,
+    Script,
+    Ruling(Layout),
+    Playing(Layout, Rules),
     Sheet,
     Station,
     Serving(Layout),
 }
-
-const NO_LAYOUT: &str = "station is followed by a layout: table, journal or pile";
 
 // The text of an input: a file, standard input as -, or the example.
 fn read_input(rt: &LibcRuntime, input: &str, example: &str) -> Result<String, AnyError> {
@@ -39,6 +45,21 @@ fn title(input: &str) -> &str {
     }
 }
 
+fn play_script(
+    rt: &LibcRuntime,
+    layout: Layout,
+    rules: Rules,
+    input: &str,
+) -> Result<(), AnyError> {
+    let text = read_input(rt, input, scripts::EXAMPLE)?;
+    let name = if input == "example" {
+        scripts::HEADING
+    } else {
+        title(input)
+    };
+    scripts::play(rt, layout, rules, name, text.as_str())
+}
+
 fn check_sheet(rt: &LibcRuntime, input: &str) -> Result<(), AnyError> {
     let text = read_input(rt, input, sheets::EXAMPLE)?;
     sheets::check(rt, title(input), text.as_str())
@@ -49,29 +70,45 @@ fn serve_station(rt: &LibcRuntime, layout: Layout, input: &str) -> Result<(), An
     stations::serve(rt, layout, title(input), text.as_str())
 }
 
-// Takes one word: sheet INPUT.. or station LAYOUT INPUT.., as often as wanted.
-fn take(rt: &LibcRuntime, mode: Mode, word: &str) -> Result<Mode, AnyError> {
-    if word == "sheet" {
-        return Ok(Mode::Sheet);
+fn command_of(word: &str) -> Option<Mode> {
+    match word {
+        "run" => Some(Mode::Script),
+        "sheet" => Some(Mode::Sheet),
+        "station" => Some(Mode::Station),
+        _ => None,
     }
-    if word == "station" {
-        return Ok(Mode::Station);
+}
+
+fn layout_in(word: &str) -> Result<Layout, AnyError> {
+    match layout_of(word) {
+        Some(layout) => Ok(layout),
+        None => Err("a layout is table, journal or pile".into()),
+    }
+}
+
+fn rules_in(word: &str) -> Result<Rules, AnyError> {
+    match rules_of(word) {
+        Some(rules) => Ok(rules),
+        None => Err("a rule is list, stamp, filter or all".into()),
+    }
+}
+
+// Takes one word: run LAYOUT RULE INPUT.., sheet INPUT.. or station LAYOUT INPUT.., as often as wanted.
+fn take(rt: &LibcRuntime, mode: Mode, word: &str) -> Result<Mode, AnyError> {
+    if let Some(command) = command_of(word) {
+        return Ok(command);
     }
     match mode {
-        Mode::Start => Err("usage: bohlinu [sheet INPUT..] [station LAYOUT INPUT..] ..".into()),
-        Mode::Sheet => {
-            check_sheet(rt, word)?;
-            Ok(Mode::Sheet)
-        }
-        Mode::Station => match layout_of(word) {
-            Some(layout) => Ok(Mode::Serving(layout)),
-            None => Err(NO_LAYOUT.into()),
-        },
-        Mode::Serving(layout) => {
-            serve_station(rt, layout, word)?;
-            Ok(Mode::Serving(layout))
-        }
+        Mode::Start =>
+            return Err("usage: bohlinu [run LAYOUT RULE INPUT..] [sheet INPUT..] [station LAYOUT INPUT..] ..".into()),
+        Mode::Script => return Ok(Mode::Ruling(layout_in(word)?)),
+        Mode::Ruling(layout) => return Ok(Mode::Playing(layout, rules_in(word)?)),
+        Mode::Station => return Ok(Mode::Serving(layout_in(word)?)),
+        Mode::Playing(layout, rules) => play_script(rt, layout, rules, word)?,
+        Mode::Sheet => check_sheet(rt, word)?,
+        Mode::Serving(layout) => serve_station(rt, layout, word)?,
     }
+    Ok(mode)
 }
 
 fn run(rt: &LibcRuntime) -> Result<(), AnyError> {
@@ -81,10 +118,8 @@ fn run(rt: &LibcRuntime) -> Result<(), AnyError> {
         mode = take(rt, mode, word.as_str())?;
         words = words.saturating_add(1);
     }
-    if let Mode::Station = mode {
-        return Err(NO_LAYOUT.into());
-    }
     if words == 0 {
+        play_script(rt, Layout::Layered, Rules::All, "example")?;
         check_sheet(rt, "example")?;
         serve_station(rt, Layout::Layered, "example")?;
     }

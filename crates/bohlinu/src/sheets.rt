@@ -56,7 +56,7 @@ impl Progress {
 }
 
 // Whether nothing is to be read of the line: it is empty, or begins with #.
-fn is_silent(line: &str, words: &[Token]) -> bool {
+pub(super) fn is_silent(line: &str, words: &[Token]) -> bool {
     words.is_empty() || line.trim_start().starts_with('#')
 }
 

@@ -1,24 +1,22 @@
 // Serves frames to a station, prints what each asked and what was replied, and sums up what the station holds.
+use super::sites::Layout;
+use super::sites::layout_name;
+use super::sites::new_journal;
+use super::sites::new_layered;
+use super::sites::new_table;
 use frames::Reply;
 use frames::read_reply;
-use journal::Journal;
 use journal::JournalStore;
-use link::Link;
 use link::LinkStore;
-use partition::Partition;
 use partition::PartitionStore;
-use quota::Quota;
 use quota::QuotaStore;
 use station::hex_bytes;
 use station::hex_text;
 use station::reply_meaning;
 use station::request_meaning;
 use station::serve_line;
-use std::alloc::AllocError;
-use std::alloc::Global;
 use std::error::AnyError;
 use store::Store;
-use table::Table;
 use table::TableStore;
 
 pub const EXAMPLE: &str =
@@ -44,31 +42,6 @@ pub const EXAMPLE: &str =
 03 0
 03 0g
 ";
-
-// The stores of a station.
-#[derive(Clone, Copy)]
-pub enum Layout {
-    Table,
-    Journal,
-    Layered,
-}
-
-pub(super) fn layout_of(word: &str) -> Option<Layout> {
-    match word {
-        "table" => Some(Layout::Table),
-        "journal" => Some(Layout::Journal),
-        "pile" => Some(Layout::Layered),
-        _ => None,
-    }
-}
-
-fn layout_name(layout: Layout) -> &'static str {
-    match layout {
-        Layout::Table => "table",
-        Layout::Journal => "journal",
-        Layout::Layered => "pile",
-    }
-}
 
 // How many lines came to what.
 #[derive(Drop)]
@@ -167,19 +140,6 @@ fn serve_text<S: Store>(rt: &LibcRuntime, store: &mut S, text: &str) -> Result<(
     summary(rt, store, &counts)
 }
 
-// A journal with space for 64 versions.
-fn new_journal(heap: Global) -> Result<Journal, AllocError> {
-    Ok(Journal::new(vec![in heap; 0; 1792]?))
-}
-
-// A limit of 8 versions an item, over a table for items below 100 and a link to a journal for the others.
-fn serve_layered(rt: &LibcRuntime, text: &str) -> Result<(), AnyError> {
-    let low = Table::new(rt.alloc(), 64)?;
-    let high = Link::new(new_journal(rt.alloc())?);
-    let mut store = Quota::new(Partition::new(low, high, 100), 8);
-    serve_text(rt, &mut store, text)
-}
-
 // Serves the frames of a text to a new station.
 pub(super) fn serve(
     rt: &LibcRuntime,
@@ -191,13 +151,16 @@ pub(super) fn serve(
     println!(rt, "station {kind}: {name}")?;
     match layout {
         Layout::Table => {
-            let mut store = Table::new(rt.alloc(), 64)?;
+            let mut store = new_table(rt.alloc())?;
             serve_text(rt, &mut store, text)
         }
         Layout::Journal => {
             let mut store = new_journal(rt.alloc())?;
             serve_text(rt, &mut store, text)
         }
-        Layout::Layered => serve_layered(rt, text),
+        Layout::Layered => {
+            let mut store = new_layered(rt.alloc())?;
+            serve_text(rt, &mut store, text)
+        }
     }
 }

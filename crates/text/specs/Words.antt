@@ -7,7 +7,7 @@ use Rattle.std.specs.shelf.Text.{sameBytes}
 use Rattle.std.specs.declared.option.Option.{Option}
 use Rattle.std.specs.declared.option.Option.the-variants.{Some, None}
 use Rattle.text.specs.declared.word.Word.{Word}
-use Rattle.text.specs.declared.word.Word.the-variants.{Writer, Sequence, Volume, Rate, From, To, Valves, Tank, Limit}
+use Rattle.text.specs.declared.word.Word.the-variants.{Writer, Sequence, Volume, Rate, From, To, Valves, Tank, Limit, File, Prepare, Commit, Close, Withdraw, Open, First, Second, Take, Release}
 
 abbrev pub index-of : Word → ℕ
 index-of Writer = 0
@@ -19,6 +19,16 @@ index-of To = 5
 index-of Valves = 6
 index-of Tank = 7
 index-of Limit = 8
+index-of File = 9
+index-of Prepare = 10
+index-of Commit = 11
+index-of Close = 12
+index-of Withdraw = 13
+index-of Open = 14
+index-of First = 15
+index-of Second = 16
+index-of Take = 17
+index-of Release = 18
 
 abbrev pub spelled : Word → List ℕ
 spelled Writer = codes "writer"
@@ -30,9 +40,21 @@ spelled To = codes "to"
 spelled Valves = codes "valves"
 spelled Tank = codes "tank"
 spelled Limit = codes "limit"
+spelled File = codes "file"
+spelled Prepare = codes "prepare"
+spelled Commit = codes "commit"
+spelled Close = codes "close"
+spelled Withdraw = codes "withdraw"
+spelled Open = codes "open"
+spelled First = codes "first"
+spelled Second = codes "second"
+spelled Take = codes "take"
+spelled Release = codes "release"
 
 abbrev pub all-words : List Word
-all-words = Writer ∷ (Sequence ∷ (Volume ∷ (Rate ∷ (From ∷ (To ∷ (Valves ∷ (Tank ∷ (Limit ∷ []))))))))
+all-words =
+    Writer ∷ (Sequence ∷ (Volume ∷ (Rate ∷ (From ∷ (To ∷ (Valves ∷ (Tank ∷ (Limit ∷ (File ∷
+    (Prepare ∷ (Commit ∷ (Close ∷ (Withdraw ∷ (Open ∷ (First ∷ (Second ∷ (Take ∷ (Release ∷ []))))))))))))))))))
 
 abbrev pub word-among : List Word → List ℕ → Option Word
 word-among [] t = None

@@ -1,4 +1,4 @@
-// The words that a sheet uses, each with its spelling.
+// The words that sheets and scripts use, each with its spelling.
 ghost use mathlib.Core.Path.{_≡_};
 ghost use Rattle.std.specs.shelf.Text.{sameBytes};
 ghost use Rattle.text.specs.Words.{index-of, spelled, word-among, word-at};
@@ -14,9 +14,19 @@ pub enum Word {
     Valves,
     Tank,
     Limit,
+    File,
+    Prepare,
+    Commit,
+    Close,
+    Withdraw,
+    Open,
+    First,
+    Second,
+    Take,
+    Release,
 }
 
-const ALL: [Word; 9] = [
+const ALL: [Word; 19] = [
     Word::Writer,
     Word::Sequence,
     Word::Volume,
@@ -26,6 +36,16 @@ const ALL: [Word; 9] = [
     Word::Valves,
     Word::Tank,
     Word::Limit,
+    Word::File,
+    Word::Prepare,
+    Word::Commit,
+    Word::Close,
+    Word::Withdraw,
+    Word::Open,
+    Word::First,
+    Word::Second,
+    Word::Take,
+    Word::Release,
 ];
 
 impl Word {
@@ -49,6 +69,16 @@ impl Word {
             Word::Valves => b"valves",
             Word::Tank => b"tank",
             Word::Limit => b"limit",
+            Word::File => b"file",
+            Word::Prepare => b"prepare",
+            Word::Commit => b"commit",
+            Word::Close => b"close",
+            Word::Withdraw => b"withdraw",
+            Word::Open => b"open",
+            Word::First => b"first",
+            Word::Second => b"second",
+            Word::Take => b"take",
+            Word::Release => b"release",
         }
     }
 
