@@ -1,4 +1,5 @@
 -- The number of each refusal of the service, and how a store's fault comes up.
+use mathlib.Core.Path.{_≡_}
 use Prim.Native.Nat.{ℕ}
 use Rattle.std.specs.declared.option.Option.{Option}
 use Rattle.std.specs.declared.option.Option.the-variants.{Some, None}
@@ -43,3 +44,30 @@ at-item i (Err f) = Err (record { item = i; fault = f })
 abbrev pub refusal-in : {X : Type 0} → Result X Fault → Option ℕ
 refusal-in (Ok x) = None
 refusal-in (Err f) = Some (number-of f)
+
+-- a refusal of the store is about the item; any other is about none
+abbrev pub About-item : ℕ → Fault → Type 0
+About-item i (Store j f) = j ≡ i
+About-item i Writer = Unit {0}
+About-item i OrderOpen = Unit {0}
+About-item i Sequence = Unit {0}
+About-item i List = Unit {0}
+About-item i Item = Unit {0}
+About-item i NoBody = Unit {0}
+About-item i NoOrder = Unit {0}
+About-item i Place = Unit {0}
+About-item i Gathering = Unit {0}
+About-item i Incomplete = Unit {0}
+About-item i Sealed = Unit {0}
+About-item i Reader = Unit {0}
+About-item i ReadOpen = Unit {0}
+About-item i NoRead = Unit {0}
+About-item i Asked = Unit {0}
+About-item i FirstMissing = Unit {0}
+About-item i NotDue = Unit {0}
+About-item i Unfinished = Unit {0}
+About-item i Kind = Unit {0}
+
+abbrev pub About : {X : Type 0} → ℕ → Result X Fault → Type 0
+About i (Ok x) = Unit {0}
+About i (Err f) = About-item i f

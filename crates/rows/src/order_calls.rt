@@ -2,7 +2,7 @@
 ghost use mathlib.Core.Path.{_≡_};
 ghost use Prim.Native.Nat.{ℕ, _≤_};
 ghost use Rattle.blend.specs.Refusals.{first-of};
-ghost use Rattle.rows.specs.Faults.{refusal-in};
+ghost use Rattle.rows.specs.Faults.{refusal-in, About};
 ghost use Rattle.rows.specs.Rows.{row-of};
 ghost use Rattle.rows.specs.OrderCalls.{stage-of, items-in, order-tests, within-list, gathering-list};
 use super::fault::Fault;
@@ -61,6 +61,7 @@ impl OrderRow {
     pub fn admit(&self, call: OrderCall) -> Result<(), Fault>
         ensures answer { λ r. ⌜ ((w : ℕ) → first-of (order-tests (row-of w (now (self .entry)) .current) call) ≡ refusal-in r) ⌝ }
         ensures few { λ _. ⌜ ((w : ℕ) → items-in (row-of w (now (self .entry)) .current) ≤ 8) ⌝ }
+        ensures own { λ r. ⌜ ((i : ℕ) → About i r) ⌝ }
     {
         let len = self.len();
         match (self.stage(), call) {

@@ -1,10 +1,10 @@
 // Which calls of its reader a row admits.
 ghost use mathlib.Core.Path.{_≡_};
-ghost use Prim.Native.Nat.{_≤_};
+ghost use Prim.Native.Nat.{ℕ, _≤_};
 ghost use lib.ListN.{length};
 ghost use Rattle.blend.specs.Refusals.{first-of};
 ghost use Rattle.protocol.specs.State.{the-read};
-ghost use Rattle.rows.specs.Faults.{refusal-in};
+ghost use Rattle.rows.specs.Faults.{refusal-in, About};
 ghost use Rattle.rows.specs.Rows.{read-in, reading};
 ghost use Rattle.rows.specs.Rules.{rule-of};
 ghost use Rattle.rows.specs.ReadCalls.{read-tests, first-tests-at, second-tests-at, take-tests-at};
@@ -38,6 +38,7 @@ impl ReadRow {
     pub fn admit<N: Naming>(&self, call: ReadCall) -> Result<(), Fault>
         ensures answer { λ r. ⌜ first-of (read-tests (rule-of (N·Naming .marks) (N·Naming .named) (N·Naming .twice)) (reading (now (self .entry))) call) ≡ refusal-in r ⌝ }
         ensures few { λ _. ⌜ length (the-read (reading (now (self .entry))) .items) ≤ 8 ⌝ }
+        ensures own { λ r. ⌜ ((i : ℕ) → About i r) ⌝ }
     {
         let _ = self.len();
         match (self.current, call) {
@@ -52,7 +53,8 @@ impl ReadRow {
 
 impl OpenRead {
     fn admit_first(&self, place: u8) -> Result<(), Fault>
-        ensures { λ r. ⌜ first-of (first-tests-at (read-in (now (self .entry))) place) ≡ refusal-in r ⌝ }
+        ensures answer { λ r. ⌜ first-of (first-tests-at (read-in (now (self .entry))) place) ≡ refusal-in r ⌝ }
+        ensures own { λ r. ⌜ ((i : ℕ) → About i r) ⌝ }
     {
         if place >= self.items.len() {
             return Err(Fault::Place);
@@ -64,7 +66,8 @@ impl OpenRead {
     }
 
     fn admit_second<N: Naming>(&self, place: u8) -> Result<(), Fault>
-        ensures { λ r. ⌜ first-of (second-tests-at (rule-of (N·Naming .marks) (N·Naming .named) (N·Naming .twice)) (read-in (now (self .entry))) place) ≡ refusal-in r ⌝ }
+        ensures answer { λ r. ⌜ first-of (second-tests-at (rule-of (N·Naming .marks) (N·Naming .named) (N·Naming .twice)) (read-in (now (self .entry))) place) ≡ refusal-in r ⌝ }
+        ensures own { λ r. ⌜ ((i : ℕ) → About i r) ⌝ }
     {
         if place >= self.items.len() {
             return Err(Fault::Place);
@@ -79,7 +82,8 @@ impl OpenRead {
     }
 
     fn admit_take<N: Naming>(&self, place: u8) -> Result<(), Fault>
-        ensures { λ r. ⌜ first-of (take-tests-at (rule-of (N·Naming .marks) (N·Naming .named) (N·Naming .twice)) (read-in (now (self .entry))) place) ≡ refusal-in r ⌝ }
+        ensures answer { λ r. ⌜ first-of (take-tests-at (rule-of (N·Naming .marks) (N·Naming .named) (N·Naming .twice)) (read-in (now (self .entry))) place) ≡ refusal-in r ⌝ }
+        ensures own { λ r. ⌜ ((i : ℕ) → About i r) ⌝ }
     {
         if place >= self.items.len() {
             return Err(Fault::Place);

@@ -1,7 +1,7 @@
 -- From what a row admits and a store answers to a step of the protocol.
 use mathlib.Core.Path.{_≡_, sym, ap, subst, _∙_}
-use mathlib.Core.List.{List}
-use mathlib.Core.Bool.{Bool, true, false, not}
+use mathlib.Core.List.{List, [], _∷_}
+use mathlib.Core.Bool.{Bool, true, false, cond}
 use Prim.Native.Nat.{ℕ, _<_, _≤_}
 use native.Mathlib.Omega.{arith}
 use lib.ListN.{length, getD, set}
@@ -11,16 +11,17 @@ use Rattle.std.specs.declared.option.Option.the-variants.{Some, None}
 use Rattle.std.specs.declared.result.Result.{Result}
 use Rattle.std.specs.declared.result.Result.the-variants.{Ok, Err}
 use Rattle.std.proofs.shelf.Lists.{getD-set-same, getD-set-other}
-use Rattle.std.proofs.shelf.Tests.{leb-false, not-false}
-use Rattle.blend.specs.Refusals.{first-of}
+use Rattle.std.proofs.shelf.Tests.{leb-false, not-false, le-ltb}
+use Rattle.blend.specs.Refusals.{Tests, first-of}
+use Rattle.store.specs.Tests.{question-tests}
 use Rattle.store.specs.declared.StoreFault.{StoreFault}
 use Rattle.store.specs.Meaning.{View}
 use Rattle.store.specs.Outcomes.{Put-outcome, Commit-outcome, Same}
 use Rattle.protocol.specs.Naming.{Naming, padded}
 use Rattle.protocol.specs.State.{State, OpenOrder, OrderRow as WriterRow, OpenRead, the-order, the-read, upd}
-use Rattle.protocol.specs.Calls.{Call, refused}
+use Rattle.protocol.specs.Calls.{Call, by-reader, second-ask, refused}
 use Rattle.protocol.specs.Asks.{progress, all-made, due-second}
-use Rattle.protocol.specs.Refusals.{all-prepared, item-at, code-at}
+use Rattle.protocol.specs.Refusals.{all-prepared, item-at, code-at, read-item, refusal}
 use Rattle.protocol.specs.Step.{Step, with-order, set-reader}
 use Rattle.protocol.proofs.Tests.{clear, order-there, read-there}
 use Rattle.protocol.proofs.Basics.{upd-from, upd-set}
@@ -32,7 +33,7 @@ use Rattle.rows.specs.declared.fault.AtItem.{AtItem}
 use Rattle.rows.specs.declared.order_calls.OrderCall.the-variants.{Prepare, Commit}
 use Rattle.rows.specs.declared.read_calls.ReadCall.the-variants.{Second}
 use Rattle.rows.specs.declared.order_changes.Placed.{Placed}
-use Rattle.rows.specs.Faults.{number-of, at-item}
+use Rattle.rows.specs.Faults.{number-of, at-item, About-item, About}
 use Rattle.rows.specs.OrderCalls.{order-tests, placed-at}
 use Rattle.rows.specs.ReadCalls.{read-tests}
 use Rattle.rows.specs.Rows.{row-of, reading, empty-row, empty-read-row}
@@ -73,6 +74,22 @@ module _ (ν : Naming) (o : Option OpenRead) (p : ℕ) where
   pub second-due : first-of (read-tests ν o (Second p)) ≡ None → due-second ν (progress (the-read o)) p ≡ true
   second-due e = not-false (due-second ν (progress (the-read o)) p) (clear (read-tests ν o (Second p)) e .1 .1 .1 .0)
 
+-- the row's refusal comes before the store's tests
+abbrev followed : Tests → Tests → Tests
+followed [] bs = bs
+followed (t ∷ ts) bs = t ∷ followed ts bs
+
+early : (ts bs : Tests) (n : ℕ) → first-of ts ≡ Some n → first-of (followed ts bs) ≡ Some n
+early [] bs n e = let z : _≡_ {A = ℕ} 0 1 = cc in absurd (omega arith)
+early (t ∷ ts) bs n e =
+    elim (t .1) as (λ b. cond b (Some (t .0)) (first-of ts) ≡ Some n → cond b (Some (t .0)) (first-of (followed ts bs)) ≡ Some n)
+    [ true ↦ λ h. h | false ↦ λ h. early ts bs n h ] e
+
+pub second-early : (ν : Naming) (s : State) (r p n : ℕ) → r ≤ 15 → first-of (read-tests ν (s .readers r) (Second p)) ≡ Some n →
+    refusal ν s (by-reader r (second-ask p)) ≡ Some n
+second-early ν s r p n low e =
+    rw (le-ltb 15 r low) (early (read-tests ν (s .readers r) (Second p)) (question-tests (read-item (the-read (s .readers r)) p)) n e)
+
 -- ── what the store answered ──
 
 module _ {X : Type 0} (i : ℕ) (r : Result X StoreFault) where
@@ -81,6 +98,16 @@ module _ {X : Type 0} (i : ℕ) (r : Result X StoreFault) where
     | Ok y ↦ λ h. cc
     | Err f ↦ λ h. let z : _≡_ {A = ℕ} 0 1 = cc in absurd (omega arith)
   ] e
+
+  pub was-item : (a : AtItem) → Err a ≡ at-item i r → a .item ≡ i
+  was-item a e = elim r as (λ z. Err a ≡ at-item i z → a .item ≡ i) [
+    | Ok y ↦ λ h. let z : _≡_ {A = ℕ} 0 1 = cc in absurd (omega arith)
+    | Err f ↦ λ h. ap (λ (q : Result X AtItem). item-in q) h
+  ] e
+    where
+      item-in : Result X AtItem → ℕ
+      item-in (Ok y) = i
+      item-in (Err b) = b .item
 
   pub was-err : (a : AtItem) → Err a ≡ at-item i r → r ≡ Err (a .fault)
   was-err a e = elim r as (λ z. Err a ≡ at-item i z → z ≡ Err (a .fault)) [
@@ -108,6 +135,10 @@ module _ (v w : View) (marks : List ℕ → ℕ) (o : Option OpenOrder) (k : ℕ
 pub refused-as : (ν : Naming) (s s′ : State) (call : Call) (r : Result ℕ Fault) (f : Fault) → r ≡ Err f →
     Step ν s call (refused (number-of f)) s′ → Step ν s call (answer r) s′
 refused-as ν s s′ call r f e z = subst (λ (a : Result ℕ Fault). Step ν s call (answer a) s′) (sym e) z
+
+-- and the item that it is about
+pub about-as : (i : ℕ) (r : Result ℕ Fault) (f : Fault) → r ≡ Err f → About-item i f → About i r
+about-as i r f e h = subst (λ (a : Result ℕ Fault). About i a) (sym e) h
 
 -- ── the service with a row changed ──
 

@@ -15,7 +15,7 @@ use Rattle.protocol.specs.Refusals.{read-item}
 use Rattle.protocol.specs.Step.{second-version}
 use Rattle.rows.specs.declared.fault.AtItem.{AtItem}
 
--- the latest of the wanted stamps, or the store's refusal
+-- the latest of the wanted stamps, or the store's refusal with the item
 abbrev pub Asked-again : Naming → View → OpenRead → ℕ → Result Version AtItem → Type 0
 Asked-again ν v x p (Ok u) = Answered (read-item x p) (second-version ν v x p) u
-Asked-again ν v x p (Err e) = first-of (question-tests (read-item x p)) ≡ Some (number-of (e .fault))
+Asked-again ν v x p (Err e) = (first-of (question-tests (read-item x p)) ≡ Some (number-of (e .fault))) × (e .item ≡ read-item x p)

@@ -3,6 +3,9 @@ ghost use mathlib.Core.Path.{_≡_};
 ghost use Rattle.store.specs.Outcomes.{one-if};
 ghost use Rattle.protocol.specs.Calls.{by-writer, file, prepare, commit, close, withdraw};
 ghost use Rattle.protocol.specs.Step.{Step};
+ghost use Rattle.protocol.specs.State.{order-of};
+ghost use Rattle.protocol.specs.Refusals.{item-at};
+ghost use Rattle.rows.specs.Faults.{About};
 ghost use Rattle.rows.specs.Rules.{rule-of};
 ghost use Rattle.service.specs.Meaning.{meaning, answer};
 use super::lists::has_unfit;
@@ -61,7 +64,8 @@ impl<S: Store, N: Naming> Service<S, N> {
 
     // Puts the version of a place into the store; answers 1 where it is new.
     pub fn prepare(&mut self, writer: u8, place: u8) -> Result<u8, Fault>
-        ensures { λ r. ⌜ Step (rule-of (N·Naming .marks) (N·Naming .named) (N·Naming .twice)) (meaning (S·Store .view) (now (self .entry))) (by-writer writer (prepare place)) (answer r) (meaning (S·Store .view) (now (self .exit))) ⌝ }
+        ensures step { λ r. ⌜ Step (rule-of (N·Naming .marks) (N·Naming .named) (N·Naming .twice)) (meaning (S·Store .view) (now (self .entry))) (by-writer writer (prepare place)) (answer r) (meaning (S·Store .view) (now (self .exit))) ⌝ }
+        ensures carries { λ r. ⌜ About (item-at (order-of (meaning (S·Store .view) (now (self .entry))) writer) place) r ⌝ }
     {
         if writer > 15 {
             return Err(Fault::Writer);
@@ -78,7 +82,8 @@ impl<S: Store, N: Naming> Service<S, N> {
 
     // Commits the version of a place; answers 1 where the item's last stamp has risen.
     pub fn commit(&mut self, writer: u8, place: u8) -> Result<u8, Fault>
-        ensures { λ r. ⌜ Step (rule-of (N·Naming .marks) (N·Naming .named) (N·Naming .twice)) (meaning (S·Store .view) (now (self .entry))) (by-writer writer (commit place)) (answer r) (meaning (S·Store .view) (now (self .exit))) ⌝ }
+        ensures step { λ r. ⌜ Step (rule-of (N·Naming .marks) (N·Naming .named) (N·Naming .twice)) (meaning (S·Store .view) (now (self .entry))) (by-writer writer (commit place)) (answer r) (meaning (S·Store .view) (now (self .exit))) ⌝ }
+        ensures carries { λ r. ⌜ About (item-at (order-of (meaning (S·Store .view) (now (self .entry))) writer) place) r ⌝ }
     {
         if writer > 15 {
             return Err(Fault::Writer);

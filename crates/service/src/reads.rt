@@ -6,7 +6,8 @@ ghost use Rattle.rows.specs.Rules.{rule-of};
 ghost use Prim.Native.Nat.{_≤_};
 ghost use Rattle.protocol.specs.State.{read-of};
 ghost use Rattle.service.specs.Asking.{Asked-again};
-ghost use Rattle.protocol.specs.Refusals.{refusal};
+ghost use Rattle.protocol.specs.Refusals.{refusal, read-item};
+ghost use Rattle.rows.specs.Faults.{About};
 ghost use Rattle.service.specs.Meaning.{meaning, answer, answer-both};
 ghost use Rattle.service.specs.Bodies.{body-shown, Taken};
 use super::lists::is_tangled;
@@ -45,7 +46,8 @@ impl<S: Store, N: Naming> Service<S, N> {
 
     // Asks a place for the last version of its item; answers its stamp.
     pub fn first_ask(&mut self, reader: u8, place: u8) -> Result<u32, Fault>
-        ensures { λ r. ⌜ Step (rule-of (N·Naming .marks) (N·Naming .named) (N·Naming .twice)) (meaning (S·Store .view) (now (self .entry))) (by-reader reader (first-ask place)) (answer r) (meaning (S·Store .view) (now (self .exit))) ⌝ }
+        ensures step { λ r. ⌜ Step (rule-of (N·Naming .marks) (N·Naming .named) (N·Naming .twice)) (meaning (S·Store .view) (now (self .entry))) (by-reader reader (first-ask place)) (answer r) (meaning (S·Store .view) (now (self .exit))) ⌝ }
+        ensures carries { λ r. ⌜ About (read-item (read-of (meaning (S·Store .view) (now (self .entry))) reader) place) r ⌝ }
     {
         if reader > 15 {
             return Err(Fault::Reader);
@@ -61,7 +63,8 @@ impl<S: Store, N: Naming> Service<S, N> {
 
     // Asks a place again for what its first asks want; answers the stamp that is then kept.
     pub fn second_ask(&mut self, reader: u8, place: u8) -> Result<u32, Fault>
-        ensures { λ r. ⌜ Step (rule-of (N·Naming .marks) (N·Naming .named) (N·Naming .twice)) (meaning (S·Store .view) (now (self .entry))) (by-reader reader (second-ask place)) (answer r) (meaning (S·Store .view) (now (self .exit))) ⌝ }
+        ensures step { λ r. ⌜ Step (rule-of (N·Naming .marks) (N·Naming .named) (N·Naming .twice)) (meaning (S·Store .view) (now (self .entry))) (by-reader reader (second-ask place)) (answer r) (meaning (S·Store .view) (now (self .exit))) ⌝ }
+        ensures carries { λ r. ⌜ About (read-item (read-of (meaning (S·Store .view) (now (self .entry))) reader) place) r ⌝ }
     {
         if reader > 15 {
             return Err(Fault::Reader);
