@@ -58,7 +58,7 @@ fn check_sheet(rt: &HostRuntime, input: &str) -> anyhow::Result<()> {
 
 fn serve_station(rt: &HostRuntime, layout: Layout, input: &str) -> anyhow::Result<()> {
     let text = read_input(rt, input, stations::EXAMPLE)?;
-    stations::serve_input(rt, layout, title(input), text.as_str())
+    stations::serve(rt, layout, title(input), text.as_str())
 }
 
 fn command_of(word: &str) -> Option<Mode> {
@@ -73,9 +73,7 @@ fn command_of(word: &str) -> Option<Mode> {
 fn layout_in(word: &str) -> anyhow::Result<Layout> {
     match layout_of(word) {
         Some(layout) => Ok(layout),
-        None => Err(anyhow!(
-            "a layout is table:ROWS, journal:BYTES or pile:LIMIT:BOUND:ROWS:BYTES, or its name alone"
-        )),
+        None => Err(anyhow!("a layout is table, journal or pile")),
     }
 }
 
@@ -86,25 +84,15 @@ fn rules_in(word: &str) -> anyhow::Result<Rules> {
     }
 }
 
-fn usage() -> anyhow::Error {
-    "usage: bohlinu [run LAYOUT RULE INPUT..] [sheet INPUT..] [station LAYOUT INPUT..] ..".into()
-}
-
-// Whether a word is still wanted after a mode's own.
-fn wants_more(mode: Mode) -> bool {
-    match mode {
-        Mode::Script | Mode::Ruling(_) | Mode::Station => true,
-        _ => false,
-    }
-}
-
 // Takes one word: run LAYOUT RULE INPUT.., sheet INPUT.. or station LAYOUT INPUT.., as often as wanted.
 fn take(rt: &HostRuntime, mode: Mode, word: &str) -> anyhow::Result<Mode> {
     if let Some(command) = command_of(word) {
         return Ok(command);
     }
     match mode {
-        Mode::Start => return Err(usage()),
+        Mode::Start => return Err(anyhow!(
+            "usage: bohlinu [run LAYOUT RULE INPUT..] [sheet INPUT..] [station LAYOUT INPUT..] .."
+        )),
         Mode::Script => return Ok(Mode::Ruling(layout_in(word)?)),
         Mode::Ruling(layout) => return Ok(Mode::Playing(layout, rules_in(word)?)),
         Mode::Station => return Ok(Mode::Serving(layout_in(word)?)),
@@ -122,14 +110,10 @@ fn run(rt: &HostRuntime) -> anyhow::Result<()> {
         mode = take(rt, mode, word.as_str())?;
         words = words.saturating_add(1);
     }
-    if wants_more(mode) {
-        return Err(usage());
-    }
     if words == 0 {
-        let layout = layout_in("pile")?;
-        play_script(rt, layout, Rules::All, "example")?;
+        play_script(rt, Layout::Layered, Rules::All, "example")?;
         check_sheet(rt, "example")?;
-        serve_station(rt, layout, "example")?;
+        serve_station(rt, Layout::Layered, "example")?;
     }
     Ok(())
 }

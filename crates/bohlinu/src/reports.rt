@@ -1,17 +1,15 @@
 // What the calls of a script came to: each answer, the reads item by item and as taken, the asks, and what is still open.
-use blend::{Body, LineUp, Quantity, TankCard, is_later, kind_of};
-use protocol::permits;
+use blend::{is_later, kind_of};
 use runs::{Answer, Call};
 use script::{answer_text, call_text};
 use sheet::{body_text, kind_text};
 
-// The open orders and reads; of each read the items, and the stamps that its first asks answered.
+// The open orders and reads, and the items of each read.
 #[derive(Clone, Copy)]
 struct Track {
     orders: [bool; 16],
     reads: [bool; 16],
     items: [[u8; 8]; 16],
-    firsts: [[u32; 8]; 16],
 }
 
 fn set(flags: &mut [bool; 16], at: u8, flag: bool) {
@@ -37,7 +35,6 @@ impl Track {
             orders: [false; 16],
             reads: [false; 16],
             items: [[0; 8]; 16],
-            firsts: [[0; 8]; 16],
         }
     }
 
@@ -67,25 +64,6 @@ impl Track {
         let k = usize::from(place);
         if i < 16 && k < 8 { self.items[i][k] } else { 0 }
     }
-
-    // The first ask of a place answered a stamp.
-    fn first(&mut self, reader: u8, place: u8, stamp: u32) {
-        let i = usize::from(reader);
-        let k = usize::from(place);
-        if i < 16 && k < 8 {
-            self.firsts[i][k] = stamp;
-        }
-    }
-
-    fn first_stamp(&self, reader: u8, place: u8) -> u32 {
-        let i = usize::from(reader);
-        let k = usize::from(place);
-        if i < 16 && k < 8 {
-            self.firsts[i][k]
-        } else {
-            0
-        }
-    }
 }
 
 fn is_refused(answer: &Answer) -> bool {
@@ -93,7 +71,6 @@ fn is_refused(answer: &Answer) -> bool {
         Answer::Refused(_) => true,
         Answer::Number(_) => false,
         Answer::Shown { .. } => false,
-        Answer::Permitted(_) => false,
     }
 }
 
@@ -172,109 +149,30 @@ fn print_mixed(rt: &HostRuntime, one: (u8, u32), other: (u8, u32)) -> anyhow::Re
     Ok(())
 }
 
-// The body that an order of the first stamp of a place was filed with.
-fn body_first<B: Body + Drop>(
-    calls: &[Call],
-    answers: &[Answer],
-    track: &Track,
-    reader: u8,
-    place: u8,
-) -> Option<B> {
-    let item = track.item(reader, place);
-    let stamp = track.first_stamp(reader, place);
-    B::decode(code_filed(calls, answers, stamp, item)?)
-}
-
-fn print_permit(rt: &HostRuntime, reader: u8, yes: bool) -> anyhow::Result<()> {
-    let word = if yes { "yes" } else { "no" };
-    println!(rt; "  permit of reader {reader}: {word}")?;
-    Ok(())
-}
-
-// The accepted first ask before, if no read was opened since: its reader, item and stamp.
-#[derive(Clone, Copy)]
-struct Before {
-    reader: u8,
-    item: u8,
-    stamp: u32,
-}
-
-// One accepted call, as independent reads of the items would have shown it; two orders side by side are named.
-fn print_first(
-    rt: &HostRuntime,
-    calls: &[Call],
-    answers: &[Answer],
-    track: &mut Track,
-    before: Option<Before>,
-    call: &Call,
-    answer: &Answer,
-) -> anyhow::Result<Option<Before>> {
-    match (call, answer) {
-        (Call::Open { .. }, _) => Ok(None),
-        (Call::First { reader, place }, Answer::Number(stamp)) => {
-            track.first(*reader, *place, *stamp);
-            let now = Before {
-                reader: *reader,
-                item: track.item(*reader, *place),
-                stamp: *stamp,
-            };
-            show(
-                rt,
-                now.item,
-                now.stamp,
-                code_filed(calls, answers, now.stamp, now.item),
-            )?;
-            print_beside(rt, before, now)?;
-            Ok(Some(now))
-        }
-        (
-            Call::Permit {
-                reader,
-                line_up,
-                quantity,
-                card,
-            },
-            _,
-        ) => {
-            let yes = permits(
-                body_first::<LineUp>(calls, answers, track, *reader, *line_up),
-                body_first::<Quantity>(calls, answers, track, *reader, *quantity),
-                body_first::<TankCard>(calls, answers, track, *reader, *card),
-            );
-            print_permit(rt, *reader, yes)?;
-            Ok(before)
-        }
-        _ => Ok(before),
-    }
-}
-
-// Two first asks of one read, one after the other, that answered two orders.
-fn print_beside(rt: &HostRuntime, before: Option<Before>, now: Before) -> anyhow::Result<()> {
-    let Some(last) = before else {
-        return Ok(());
-    };
-    if last.reader == now.reader && last.stamp != now.stamp {
-        print_mixed(rt, (now.item, now.stamp), (last.item, last.stamp))?;
-    }
-    Ok(())
-}
-
-// What each first ask showed, as a read of the item alone.
+// What each first ask showed, as a read of the item alone; two orders side by side are named.
 fn print_firsts(rt: &HostRuntime, calls: &[Call], answers: &[Answer]) -> anyhow::Result<()> {
     println!(rt; "item by item, as first asked:")?;
     let mut track = Track::new();
-    let mut before = None;
+    let mut before = (0, 0, 0);
     for (call, answer) in calls.iter().zip(answers.iter()) {
         if is_refused(answer) {
             continue;
         }
         track.accept(call);
-        before = print_first(rt, calls, answers, &mut track, before, call, answer)?;
+        if let (Call::First { reader, place }, Answer::Number(stamp)) = (call, answer) {
+            let item = track.item(*reader, *place);
+            show(rt, item, *stamp, code_filed(calls, answers, *stamp, item))?;
+            let (last_reader, last_item, last_stamp) = before;
+            if last_item > 0 && last_reader == *reader && last_stamp != *stamp {
+                print_mixed(rt, (item, *stamp), (last_item, last_stamp))?;
+            }
+            before = (*reader, item, *stamp);
+        }
     }
     Ok(())
 }
 
-// What each take showed, and what each permit answered.
+// What each take showed.
 fn print_takes(rt: &HostRuntime, calls: &[Call], answers: &[Answer]) -> anyhow::Result<()> {
     println!(rt; "together, as taken:")?;
     let mut track = Track::new();
@@ -287,9 +185,6 @@ fn print_takes(rt: &HostRuntime, calls: &[Call], answers: &[Answer]) -> anyhow::
             let item = track.item(*reader, *place);
             let held = if *stamp > 0 { Some(*code) } else { None };
             show(rt, item, *stamp, held)?;
-        }
-        if let (Call::Permit { reader, .. }, Answer::Permitted(yes)) = (call, answer) {
-            print_permit(rt, *reader, *yes)?;
         }
     }
     Ok(())

@@ -1,7 +1,7 @@
 // Plays a script of calls over a layout of stores and under a naming rule.
 use super::reports::report;
 use super::sheets::is_silent;
-use super::sites::{Layout, new_journal, new_layered, new_table};
+use super::sites::{Layout, layout_name, new_journal, new_layered, new_table};
 use naming::{FilterRule, ListRule, Naming, StampRule};
 use runs::{Call, run};
 use script::{fault_text, read_call};
@@ -22,14 +22,13 @@ commit 1 1
 commit 1 2
 close 1
 # console 2 files the next one over the same items; the panel reads between its commits
-file 2 2 5 volume 60000 rate 300 130 from 1 to 3 valves 5 202 tank 3 limit 50000
+file 2 2 5 volume 60000 rate 300 130 from 1 to 3 valves 5 202 tank 3 limit 90000
 prepare 2 0
 prepare 2 1
 prepare 2 2
 open 0 5 130 202
 first 0 0
 commit 2 1
-commit 2 2
 first 0 1
 first 0 2
 second 0 0
@@ -38,8 +37,6 @@ second 0 2
 take 0 0
 take 0 1
 take 0 2
-# may the blend start?
-permit 0 1 0 2
 release 0
 ";
 
@@ -67,7 +64,7 @@ fn read_script(rt: &HostRuntime, text: &str) -> anyhow::Result<Script> {
     for (index, line) in text.split('\n').enumerate() {
         let words = tokens(rt.alloc(), line.as_bytes())?;
         let number = index.saturating_add(1);
-        if is_silent(line) {
+        if is_silent(line, words.as_slice()) {
             continue;
         }
         match read_call(rt.alloc(), words.as_slice())? {
@@ -121,21 +118,12 @@ fn play_under<N: Naming + Drop>(
     rule: N,
     script: &Script,
 ) -> anyhow::Result<()> {
-    println!(rt; "layout {layout}, rule {name}")?;
+    let place = layout_name(layout);
+    println!(rt; "layout {place}, rule {name}")?;
     match layout {
-        Layout::Table { rows } => play_on(rt, new_table(rt.alloc(), rows)?, rule, script),
-        Layout::Journal { bytes } => play_on(rt, new_journal(rt.alloc(), bytes)?, rule, script),
-        Layout::Layered {
-            limit,
-            bound,
-            rows,
-            bytes,
-        } => play_on(
-            rt,
-            new_layered(rt.alloc(), limit, bound, rows, bytes)?,
-            rule,
-            script,
-        ),
+        Layout::Table => play_on(rt, new_table(rt.alloc())?, rule, script),
+        Layout::Journal => play_on(rt, new_journal(rt.alloc())?, rule, script),
+        Layout::Layered => play_on(rt, new_layered(rt.alloc())?, rule, script),
     }
 }
 

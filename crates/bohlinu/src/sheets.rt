@@ -1,6 +1,6 @@
 // Checks a sheet line by line, prints what each line comes to, and sums up.
 use sheet::{LineFault, Sheet, entry_text, read_heading, refusal_text, stamp_text};
-use text::{Token, is_blank, tokens};
+use text::{Token, tokens};
 
 pub const EXAMPLE: &str = "# a blend order of console 1: volume, line-up, tank card
 writer 1 sequence 1
@@ -48,14 +48,9 @@ impl Progress {
     }
 }
 
-// Whether nothing is to be read of the line: it has no word, or begins with #.
-pub(super) fn is_silent(line: &str) -> bool {
-    for b in line.bytes() {
-        if !is_blank(b) {
-            return b == b'#';
-        }
-    }
-    true
+// Whether nothing is to be read of the line: it is empty, or begins with #.
+pub(super) fn is_silent(line: &str, words: &[Token]) -> bool {
+    words.is_empty() || line.trim_start().starts_with('#')
 }
 
 fn summary(rt: &HostRuntime, progress: &Progress) -> anyhow::Result<()> {
@@ -78,7 +73,7 @@ pub(super) fn check(rt: &HostRuntime, name: &str, text: &str) -> anyhow::Result<
     for (index, line) in text.split('\n').enumerate() {
         let words = tokens(rt.alloc(), line.as_bytes())?;
         let number = index.saturating_add(1);
-        if is_silent(line) {
+        if is_silent(line, words.as_slice()) {
             continue;
         }
         if progress.headed {

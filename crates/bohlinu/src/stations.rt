@@ -1,10 +1,8 @@
 // Serves frames to a station, prints what each asked and what was replied, and sums up what the station holds.
-use super::sheets::is_silent;
-use super::sites::{Layout, new_journal, new_layered, new_table};
-use frames::{Reply, read_reply, serve};
-use station::{hex_bytes, hex_text, refusal_reason, reply_meaning, request_meaning};
+use super::sites::{Layout, layout_name, new_journal, new_layered, new_table};
+use frames::{Reply, read_reply};
+use station::{hex_bytes, hex_text, reply_meaning, request_meaning, serve_line};
 use store::Store;
-use text::number_of;
 
 pub const EXAMPLE: &str =
     "# item 5: a version, the same again, another with its stamp, then the commit
@@ -28,11 +26,6 @@ pub const EXAMPLE: &str =
 # no frames
 03 0
 03 0g
-# a reply that came back, one that is not listed, and a buffer too short for a reply
-reply 11 01
-reply 13 08
-buffer 20 03 05
-buffer 03 05
 ";
 
 // How many lines came to what.
@@ -63,70 +56,18 @@ fn answer<S: Store>(
     rt: &HostRuntime,
     store: &mut S,
     counts: &mut Counts,
-    size: u8,
     frame: &[u8],
 ) -> anyhow::Result<()> {
     let asked = request_meaning(rt.alloc(), frame)?;
     show(rt, "frame", frame, asked.as_str())?;
-    let mut buffer = [0; 255];
-    match serve(store, frame, &mut buffer[0..usize::from(size)]) {
-        Ok(length) => {
-            let reply = &buffer[0..length];
-            let replied = reply_meaning(rt.alloc(), reply)?;
-            show(rt, "reply", reply, replied.as_str())?;
-            counts.add(reply);
-        }
-        Err(fault) => {
-            counts.refused = counts.refused.saturating_add(1);
-            let number = fault.number();
-            let reason = refusal_reason(number);
-            println!(rt; "no reply: refused {number}: {reason}")?;
-        }
-    }
+    let answer = serve_line(store, frame);
+    let replied = reply_meaning(rt.alloc(), answer.frame())?;
+    show(rt, "reply", answer.frame(), replied.as_str())?;
+    counts.add(answer.frame());
     Ok(())
 }
 
-// What is to be done with the frame of a line: serve it with a reply buffer of so many bytes, or read it as a reply.
-#[derive(Clone, Copy)]
-enum Task<'a> {
-    Serve { size: u8, digits: &'a str },
-    Read { digits: &'a str },
-}
-
-// The task of a line; absent for a buffer without a size.
-fn task_of(line: &str) -> Option<Task<'_>> {
-    let start = line.trim_start_matches([' ', '\t', '\r']);
-    if let Some(digits) = start.strip_prefix("reply ") {
-        return Some(Task::Read { digits });
-    }
-    let Some(rest) = start.strip_prefix("buffer ") else {
-        return Some(Task::Serve {
-            size: 21,
-            digits: line,
-        });
-    };
-    let (word, digits) = rest.split_once(' ')?;
-    let size = u8::try_from(number_of(word.as_bytes())?).ok()?;
-    Some(Task::Serve { size, digits })
-}
-
-fn no_frame(
-    rt: &HostRuntime,
-    counts: &mut Counts,
-    number: usize,
-    reason: &str,
-) -> anyhow::Result<()> {
-    counts.bad = counts.bad.saturating_add(1);
-    println!(rt; "line {number}: no frame: {reason}")?;
-    Ok(())
-}
-
-fn read(rt: &HostRuntime, frame: &[u8]) -> anyhow::Result<()> {
-    let meaning = reply_meaning(rt.alloc(), frame)?;
-    show(rt, "read", frame, meaning.as_str())
-}
-
-// One line: a frame that is served or read, or no frame.
+// One line: a frame that is served, or no frame.
 fn take<S: Store>(
     rt: &HostRuntime,
     store: &mut S,
@@ -134,20 +75,14 @@ fn take<S: Store>(
     number: usize,
     line: &str,
 ) -> anyhow::Result<()> {
-    let Some(task) = task_of(line) else {
-        return no_frame(rt, counts, number, "a buffer has a size from 0 to 255");
-    };
-    let digits = match task {
-        Task::Serve { digits, .. } => digits,
-        Task::Read { digits } => digits,
-    };
-    let frame = match hex_bytes(rt.alloc(), digits.as_bytes())? {
-        Ok(frame) => frame,
-        Err(fault) => return no_frame(rt, counts, number, fault.reason()),
-    };
-    match task {
-        Task::Serve { size, .. } => answer(rt, store, counts, size, frame.as_slice()),
-        Task::Read { .. } => read(rt, frame.as_slice()),
+    match hex_bytes(rt.alloc(), line.as_bytes())? {
+        Ok(frame) => answer(rt, store, counts, frame.as_slice()),
+        Err(fault) => {
+            counts.bad = counts.bad.saturating_add(1);
+            let reason = fault.reason();
+            println!(rt; "line {number}: no frame: {reason}")?;
+            Ok(())
+        }
     }
 }
 
@@ -167,6 +102,12 @@ fn summary<S: Store>(rt: &HostRuntime, store: &S, counts: &Counts) -> anyhow::Re
     Ok(())
 }
 
+// Whether nothing is to be read of the line: it is empty, or begins with #.
+fn is_silent(line: &str) -> bool {
+    let rest = line.trim_start();
+    rest.is_empty() || rest.starts_with('#')
+}
+
 fn serve_text<S: Store>(rt: &HostRuntime, store: &mut S, text: &str) -> anyhow::Result<()> {
     let mut counts = Counts {
         served: 0,
@@ -182,29 +123,25 @@ fn serve_text<S: Store>(rt: &HostRuntime, store: &mut S, text: &str) -> anyhow::
 }
 
 // Serves the frames of a text to a new station.
-pub(super) fn serve_input(
+pub(super) fn serve(
     rt: &HostRuntime,
     layout: Layout,
     name: &str,
     text: &str,
 ) -> anyhow::Result<()> {
-    println!(rt; "station {layout}: {name}")?;
+    let kind = layout_name(layout);
+    println!(rt; "station {kind}: {name}")?;
     match layout {
-        Layout::Table { rows } => {
-            let mut store = new_table(rt.alloc(), rows)?;
+        Layout::Table => {
+            let mut store = new_table(rt.alloc())?;
             serve_text(rt, &mut store, text)
         }
-        Layout::Journal { bytes } => {
-            let mut store = new_journal(rt.alloc(), bytes)?;
+        Layout::Journal => {
+            let mut store = new_journal(rt.alloc())?;
             serve_text(rt, &mut store, text)
         }
-        Layout::Layered {
-            limit,
-            bound,
-            rows,
-            bytes,
-        } => {
-            let mut store = new_layered(rt.alloc(), limit, bound, rows, bytes)?;
+        Layout::Layered => {
+            let mut store = new_layered(rt.alloc())?;
             serve_text(rt, &mut store, text)
         }
     }

@@ -6,7 +6,7 @@ use Rattle.std.proofs.lemmas.Bool.{cases_eq, cond-true, cond-false, eq-eqb, ne_e
 use Rattle.blend.specs.Stamps.{later_of}
 use Rattle.store.specs.Meaning.{LastHeld, Version, blank, version_with, last_version}
 use Rattle.protocol.specs.Naming.{Naming, Lawful, mark_for}
-use Rattle.protocol.specs.Calls.{WriterCall, file, prepare, commit, close, withdraw, ReaderCall, open_read, first_ask, second_ask, take, release, permit, Call, by_writer, by_reader, Answer, refused, accepted}
+use Rattle.protocol.specs.Calls.{WriterCall, file, prepare, commit, close, withdraw, ReaderCall, open_read, first_ask, second_ask, take, release, Call, by_writer, by_reader, Answer, refused, accepted}
 use Rattle.protocol.specs.State.{upd, Order, OpenRead, State, Untouched, order_of, read_of}
 use Rattle.protocol.specs.Asks.{wanted, progress, asks_made}
 use Rattle.protocol.specs.Refusals.{item_at, code_at, read_item}
@@ -207,7 +207,6 @@ inv_step ν law h s (by_reader r (take p)) (accepted a b) s' k z = subst (Inv ν
 inv_step ν law h s (by_reader r release) (accepted a b) s' k z =
     reader-step ν law h s k s' r a b release None z.1.1
     (reads_after ν h s.readers r None None k.reads refl (λ x e. never e) (releases ν s s' r a b z).low)
-inv_step ν law h s (by_reader r (permit l q c)) (accepted a b) s' k z = subst (Inv ν h) (sym z.1.1) k
 
 -- ── whole runs ──
 

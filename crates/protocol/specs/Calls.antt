@@ -1,4 +1,4 @@
--- The ten calls and the permit, and their answers.
+-- The ten calls, and their answers.
 use Rattle.std.specs.Prelude.{ℕ, List}
 
 pub data WriterCall : Type 0 where
@@ -17,8 +17,6 @@ pub data ReaderCall : Type 0 where
   second_ask : ℕ → ReaderCall
   take : ℕ → ReaderCall
   release : ReaderCall
-  -- the places of a line-up, a quantity and a tank card
-  permit : ℕ → ℕ → ℕ → ReaderCall
 
 pub data Call : Type 0 where
   by_writer : ℕ → WriterCall → Call

@@ -2,7 +2,7 @@
 use Rattle.std.specs.Prelude.{◌≡◌, ℕ, suc, ◌<◌, Bool, true, false, ◌⊎◌, List, [], ◌∷◌, length, is_some, Some, None, Option, slice_index}
 use Rattle.std.specs.Option.{option_map}
 use Rattle.protocol.specs.Naming.{Naming, mark_for}
-use Rattle.protocol.specs.Calls.{file, prepare, commit, close, withdraw, open_read, first_ask, second_ask, take, release, permit, Call, by_writer, by_reader, Answer, refused, accepted}
+use Rattle.protocol.specs.Calls.{file, prepare, commit, close, withdraw, open_read, first_ask, second_ask, take, release, Call, by_writer, by_reader, Answer, refused, accepted}
 use Rattle.protocol.specs.State.{upd, Order}
 use Rattle.protocol.specs.Asks.{Progress}
 
@@ -122,7 +122,6 @@ read_after (called (by_reader r (first_ask p)) (accepted a b)) u = upd u r (opti
 read_after (called (by_reader r (second_ask p)) (accepted a b)) u = upd u r (option_map (with_second p) (u r))
 read_after (called (by_reader r (take p)) (accepted a b)) u = u
 read_after (called (by_reader r release) (accepted a b)) u = upd u r None
-read_after (called (by_reader r (permit l q c)) (accepted a b)) u = u
 
 abbrev pub current_read : History → ℕ → Option Read
 current_read [] r = None

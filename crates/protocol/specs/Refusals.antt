@@ -6,10 +6,9 @@ use Rattle.blend.specs.Fitting.{fits}
 use Rattle.blend.specs.Lists.{has}
 use Rattle.store.specs.Tests.{put_tests, commit_tests, question_tests}
 use Rattle.protocol.specs.Naming.{Naming, mark_for}
-use Rattle.protocol.specs.Calls.{file, prepare, commit, close, withdraw, open_read, first_ask, second_ask, take, release, permit, Call, by_writer, by_reader}
+use Rattle.protocol.specs.Calls.{file, prepare, commit, close, withdraw, open_read, first_ask, second_ask, take, release, Call, by_writer, by_reader}
 use Rattle.protocol.specs.State.{OpenOrder, OpenRead, State, order_of, read_of}
 use Rattle.protocol.specs.Asks.{progress, all_below, all_made, due_second, finished}
-use Rattle.protocol.specs.Permit.{other_kinds}
 
 -- ── lists of items ──
 
@@ -93,10 +92,6 @@ tests ν s (by_reader r (take p)) =
     let x = read_of s r in
     (21, nat_lt 15 r) ∷ (23, no_read s r) ∷ (17, beyond x.items p) ∷ (27, not (finished ν (progress x))) ∷ []
 tests ν s (by_reader r release) = (21, nat_lt 15 r) ∷ (23, no_read s r) ∷ []
-tests ν s (by_reader r (permit l q c)) =
-    let x = read_of s r in
-    (21, nat_lt 15 r) ∷ (23, no_read s r) ∷ (17, beyond x.items l || (beyond x.items q || beyond x.items c)) ∷
-    (27, not (finished ν (progress x))) ∷ (28, other_kinds x l q c) ∷ []
 
 -- the number that the call is refused with, if it is
 abbrev pub refusal : Naming → State → Call → Option ℕ

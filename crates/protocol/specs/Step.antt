@@ -4,10 +4,9 @@ use Rattle.blend.specs.Stamps.{later}
 use Rattle.store.specs.Meaning.{View, Version, blank, last_version, picked}
 use Rattle.store.specs.Outcomes.{PutDone, CommitDone, one_if}
 use Rattle.protocol.specs.Naming.{Naming, Bytes, mark_for}
-use Rattle.protocol.specs.Calls.{file, prepare, commit, close, withdraw, open_read, first_ask, second_ask, take, release, permit, Call, by_writer, by_reader, Answer, refused, accepted}
+use Rattle.protocol.specs.Calls.{file, prepare, commit, close, withdraw, open_read, first_ask, second_ask, take, release, Call, by_writer, by_reader, Answer, refused, accepted}
 use Rattle.protocol.specs.State.{upd, OpenOrder, OrderRow, OpenRead, State, order_of, read_of}
 use Rattle.protocol.specs.Asks.{progress, wanted, eight, asks_made}
-use Rattle.protocol.specs.Permit.{permit_at}
 use Rattle.protocol.specs.Refusals.{refusal, item_at, code_at, read_item}
 
 -- ── rows after a call ──
@@ -99,7 +98,6 @@ Effect ν s (by_reader r (second_ask p)) a s' =
     (a ≡ (later_version (x.kept p) v).0) × (s' ≡ set_reader s r (Some (second_asked x p v)))
 Effect ν s (by_reader r (take p)) a s' = (a ≡ ((read_of s r).kept p).0) × (s' ≡ s)
 Effect ν s (by_reader r release) a s' = (a ≡ asks_made (progress (read_of s r))) × (s' ≡ set_reader s r None)
-Effect ν s (by_reader r (permit l q c)) a s' = (a ≡ one_if (permit_at (read_of s r) l q c)) × (s' ≡ s)
 
 -- the code beside the number answered: of a take alone
 abbrev pub code_beside : State → Call → ℕ
@@ -109,7 +107,6 @@ code_beside s (by_reader r (first_ask p)) = 0
 code_beside s (by_reader r (second_ask p)) = 0
 code_beside s (by_reader r (take p)) = ((read_of s r).kept p).1
 code_beside s (by_reader r release) = 0
-code_beside s (by_reader r (permit l q c)) = 0
 
 -- A call is refused with the number of its first test that fires, and then changes nothing; where none fires it is accepted.
 abbrev pub Step : Naming → State → Call → Answer → State → Type 0

@@ -3,7 +3,7 @@ use Rattle.std.specs.Prelude.{◌≡◌, ℕ, Some, None, Ok, Err, Option, Resul
 use Rattle.store.specs.declared.StoreFault.{StoreFault}
 use Rattle.store.specs.Faults as store
 use Rattle.rows.specs.declared.fault.Fault.{Fault}
-use Rattle.rows.specs.declared.fault.Fault.TheVariants.{Store, Writer, OrderOpen, Sequence, List, Item, NoBody, NoOrder, Place, Gathering, Incomplete, Sealed, Reader, ReadOpen, NoRead, Asked, FirstMissing, NotDue, Unfinished, Kind, Ticket}
+use Rattle.rows.specs.declared.fault.Fault.TheVariants.{Store, Writer, OrderOpen, Sequence, List, Item, NoBody, NoOrder, Place, Gathering, Incomplete, Sealed, Reader, ReadOpen, NoRead, Asked, FirstMissing, NotDue, Unfinished, Kind}
 use Rattle.rows.specs.declared.fault.AtItem.{AtItem}
 
 abbrev pub number_of : Fault → ℕ
@@ -27,7 +27,6 @@ number_of FirstMissing = 25
 number_of NotDue = 26
 number_of Unfinished = 27
 number_of Kind = 28
-number_of Ticket = 29
 
 abbrev pub with_item : AtItem → Fault
 with_item e = Store e.item e.fault
@@ -63,7 +62,6 @@ AboutItem i FirstMissing = Unit {0}
 AboutItem i NotDue = Unit {0}
 AboutItem i Unfinished = Unit {0}
 AboutItem i Kind = Unit {0}
-AboutItem i Ticket = Unit {0}
 
 abbrev pub About : {X : Type 0} → ℕ → Result X Fault → Type 0
 About i (Ok x) = Unit {0}

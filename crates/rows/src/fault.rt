@@ -26,7 +26,6 @@ pub enum Fault {
     NotDue,
     Unfinished,
     Kind,
-    Ticket,
 }
 
 impl Fault {
@@ -54,7 +53,6 @@ impl Fault {
             Fault::NotDue => 26,
             Fault::Unfinished => 27,
             Fault::Kind => 28,
-            Fault::Ticket => 29,
         }
     }
 }

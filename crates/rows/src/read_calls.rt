@@ -1,17 +1,15 @@
 // Which calls of its reader a row admits.
-ghost use Rattle.std.specs.Prelude.{◌≡◌, ℕ, ◌≤◌, not, length};
+ghost use Rattle.std.specs.Prelude.{◌≡◌, ℕ, ◌≤◌, length};
 ghost use Rattle.blend.specs.Refusals.{first_of};
-ghost use Rattle.protocol.specs.Permit.{other_kinds};
 ghost use Rattle.protocol.specs.State.{the_read};
 ghost use Rattle.rows.specs.Faults.{refusal_in, About};
 ghost use Rattle.rows.specs.Rows.{read_in, reading};
 ghost use Rattle.rows.specs.Rules.{rule_of};
-ghost use Rattle.rows.specs.ReadCalls.{read_tests, first_tests_at, second_tests_at, take_tests_at, permit_tests_at};
+ghost use Rattle.rows.specs.ReadCalls.{read_tests, first_tests_at, second_tests_at, take_tests_at};
 
 use super::fault::Fault;
 use super::flags::is_set;
 use super::read::{OpenRead, ReadRow};
-use blend::{Kind, is_of_kind};
 use naming::Naming;
 
 #[derive(Clone, Copy)]
@@ -20,7 +18,6 @@ pub enum ReadCall {
     Second(u8),
     Take(u8),
     Release,
-    Permit { line_up: u8, quantity: u8, card: u8 },
 }
 
 impl ReadRow {
@@ -48,14 +45,6 @@ impl ReadRow {
             (Some(read), ReadCall::Second(place)) => read.admit_second::<N>(place),
             (Some(read), ReadCall::Take(place)) => read.admit_take::<N>(place),
             (Some(_), ReadCall::Release) => Ok(()),
-            (
-                Some(read),
-                ReadCall::Permit {
-                    line_up,
-                    quantity,
-                    card,
-                },
-            ) => read.admit_permit::<N>(line_up, quantity, card),
         }
     }
 }
@@ -101,31 +90,5 @@ impl OpenRead {
             return Err(Fault::Unfinished);
         }
         Ok(())
-    }
-
-    fn admit_permit<N: Naming>(&self, line_up: u8, quantity: u8, card: u8) -> Result<(), Fault>
-        ensures answer { first_of (permit_tests_at (rule_of N.Naming.marks N.Naming.named N.Naming.twice) (read_in self.now) line_up quantity card) ≡ refusal_in result }
-        ensures own { (i : ℕ) → About i result }
-    {
-        let len = self.items.len();
-        if line_up >= len || quantity >= len || card >= len {
-            return Err(Fault::Place);
-        }
-        if !self.is_finished::<N>() {
-            return Err(Fault::Unfinished);
-        }
-        if !self.are_kinds(line_up, quantity, card) {
-            return Err(Fault::Kind);
-        }
-        Ok(())
-    }
-
-    // Whether the places are of a line-up, a quantity and a tank card.
-    fn are_kinds(&self, line_up: u8, quantity: u8, card: u8) -> bool
-        ensures { not result ≡ other_kinds (read_in self.now) line_up quantity card }
-    {
-        is_of_kind(self.items.at(line_up), Kind::LineUp)
-            && is_of_kind(self.items.at(quantity), Kind::Quantity)
-            && is_of_kind(self.items.at(card), Kind::TankCard)
     }
 }

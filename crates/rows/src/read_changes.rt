@@ -3,7 +3,6 @@ ghost use Rattle.std.specs.Prelude.{◌≡◌, ◌<◌, ◌≤◌, length, Some,
 ghost use Rattle.protocol.specs.Step.{fresh_read, first_asked, second_asked, later_version};
 ghost use Rattle.protocol.specs.Asks.{progress, eight, wanted as wanted-stamp, asks_made};
 ghost use Rattle.protocol.specs.State.{the_read};
-ghost use Rattle.protocol.specs.Permit.{body_of};
 ghost use Rattle.rows.specs.Rules.{rule_of};
 ghost use Rattle.protocol.specs.Refusals.{read_item};
 ghost use Rattle.rows.specs.Rows.{read_in, reading};
@@ -12,7 +11,7 @@ ghost use Rattle.rows.specs.ReadCalls.{first_in, second_in};
 use super::items::Items;
 use super::places::at_or;
 use super::read::{OpenRead, ReadRow};
-use blend::{Body, is_later};
+use blend::is_later;
 use naming::Naming;
 
 // The later of two versions, the first where neither is later.
@@ -98,14 +97,6 @@ impl ReadRow {
             Some(read) => at_or((0, 0, 0), &read.kept, place as usize),
             None => (0, 0, 0),
         }
-    }
-
-    // The body of the kind B that is kept at a place; absent for the blank and for a code of no such body.
-    pub fn body<B: Body + Drop>(&self, place: u8) -> Option<B>
-        ensures { result ≡ body_of B.Body.decodes ((the_read (reading self.now)).kept place) }
-    {
-        let (stamp, code, _) = self.kept(place);
-        if stamp == 0 { None } else { B::decode(code) }
     }
 
     // Keeps what the first ask of a place answered.

@@ -1,6 +1,5 @@
 -- What calls and answers mean in the protocol, the history of a run, and what a run promises.
-use Rattle.std.specs.Prelude.{ℕ, Bool, List, [], ◌∷◌, Ok, Err, vec_items, Result}
-use Rattle.store.specs.Outcomes.{one_if}
+use Rattle.std.specs.Prelude.{ℕ, List, [], ◌∷◌, Ok, Err, vec_items, Result}
 use Rattle.protocol.specs.Naming.{Naming}
 use Rattle.protocol.specs.State.{State, Untouched}
 use Rattle.protocol.specs.Calls as protocol
@@ -9,9 +8,9 @@ use Rattle.protocol.specs.Law.{Trace, AlwaysWhole}
 use Rattle.rows.specs.declared.fault.Fault.{Fault}
 use Rattle.rows.specs.Faults.{number_of}
 use Rattle.runs.specs.declared.calls.Call.{Call}
-use Rattle.runs.specs.declared.calls.Call.TheVariants.{File, Prepare, Commit, Close, Withdraw, Open, First, Second, Take, Release, Permit}
+use Rattle.runs.specs.declared.calls.Call.TheVariants.{File, Prepare, Commit, Close, Withdraw, Open, First, Second, Take, Release}
 use Rattle.runs.specs.declared.calls.Answer.{Answer}
-use Rattle.runs.specs.declared.calls.Answer.TheVariants.{Number, Shown, Permitted, Refused}
+use Rattle.runs.specs.declared.calls.Answer.TheVariants.{Number, Shown, Refused}
 
 abbrev pub call_of : Call → protocol.Call
 call_of (File w q items codes) = protocol.by_writer w (protocol.file q (vec_items items) (vec_items codes))
@@ -24,13 +23,11 @@ call_of (First r p) = protocol.by_reader r (protocol.first_ask p)
 call_of (Second r p) = protocol.by_reader r (protocol.second_ask p)
 call_of (Take r p) = protocol.by_reader r (protocol.take p)
 call_of (Release r) = protocol.by_reader r protocol.release
-call_of (Permit r l q c) = protocol.by_reader r (protocol.permit l q c)
 
 -- each answer's number and values
 abbrev pub answer_of : Answer → protocol.Answer
 answer_of (Number n) = protocol.accepted n 0
 answer_of (Shown stamp code) = protocol.accepted stamp code
-answer_of (Permitted b) = protocol.accepted (one_if b) 0
 answer_of (Refused f) = protocol.refused (number_of f)
 
 abbrev pub numbered : Result ℕ Fault → Answer
@@ -40,10 +37,6 @@ numbered (Err f) = Refused f
 abbrev pub shown : Result (ℕ × ℕ) Fault → Answer
 shown (Ok x) = Shown x.0 x.1
 shown (Err f) = Refused f
-
-abbrev pub permitted : Result Bool Fault → Answer
-permitted (Ok b) = Permitted b
-permitted (Err f) = Refused f
 
 -- the history after the calls with their answers, the newest first
 abbrev pub happened : List Call → List Answer → History → History

@@ -1,4 +1,4 @@
-// The ten calls and the permit with their arguments, and what is answered.
+// The ten calls with their arguments, and what is answered.
 use rows::Fault;
 
 #[derive(Drop)]
@@ -42,19 +42,12 @@ pub enum Call {
     Release {
         reader: u8,
     },
-    Permit {
-        reader: u8,
-        line_up: u8,
-        quantity: u8,
-        card: u8,
-    },
 }
 
-// A number; of a take stamp and code; of a permit yes or no; or a refusal.
+// A number; of a take stamp and code; or a refusal.
 #[derive(Clone, Copy)]
 pub enum Answer {
     Number(u32),
     Shown { stamp: u32, code: u64 },
-    Permitted(bool),
     Refused(Fault),
 }

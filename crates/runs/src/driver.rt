@@ -3,7 +3,7 @@ ghost use Rattle.std.specs.Prelude.{◌≡◌, MatchResult};
 ghost use Rattle.protocol.specs.Step.{Step};
 ghost use Rattle.rows.specs.Rules.{rule_of};
 ghost use Rattle.service.specs.Meaning.{meaning};
-ghost use Rattle.runs.specs.Runs.{call_of, answer_of, numbered, shown, permitted, Ran};
+ghost use Rattle.runs.specs.Runs.{call_of, answer_of, numbered, shown, Ran};
 
 use super::calls::{Answer, Call};
 use naming::Naming;
@@ -39,15 +39,6 @@ fn of_shown(answer: Result<(u32, u64), Fault>) -> Answer
     }
 }
 
-fn of_permit(answer: Result<bool, Fault>) -> Answer
-    ensures { result ≡ permitted answer }
-{
-    match answer {
-        Ok(yes) => Answer::Permitted(yes),
-        Err(fault) => Answer::Refused(fault),
-    }
-}
-
 // Makes one call.
 pub fn make<S: Store, N: Naming>(service: &mut Service<S, N>, call: &Call) -> Answer
     ensures { Step (rule_of N.Naming.marks N.Naming.named N.Naming.twice) (meaning S.Store.view service.old) (call_of call.now) (answer_of result) (meaning S.Store.view service.new) }
@@ -68,12 +59,6 @@ pub fn make<S: Store, N: Naming>(service: &mut Service<S, N>, call: &Call) -> An
         Call::Second { reader, place } => of_stamp(service.second_ask(*reader, *place)),
         Call::Take { reader, place } => of_shown(service.take(*reader, *place)),
         Call::Release { reader } => of_byte(service.release(*reader)),
-        Call::Permit {
-            reader,
-            line_up,
-            quantity,
-            card,
-        } => of_permit(service.permit(*reader, *line_up, *quantity, *card)),
     }
 }
 

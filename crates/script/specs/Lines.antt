@@ -1,14 +1,14 @@
 -- The call that a line says.
 use Rattle.std.specs.Prelude.{ℕ, cond, List, length, drop, Ok, Err, Result, nat_lt, slice_index_or}
-use Rattle.protocol.specs.Calls.{Call, by_writer, by_reader, file, prepare, commit, close, withdraw, open_read, first_ask, second_ask, take, release, permit}
+use Rattle.protocol.specs.Calls.{Call, by_writer, by_reader, file, prepare, commit, close, withdraw, open_read, first_ask, second_ask, take, release}
 use Rattle.text.specs.declared.token.Token.{Token}
 use Rattle.text.specs.declared.token.Token.TheVariants.{Number, Name, Other}
 use Rattle.text.specs.declared.word.Word.{Word}
-use Rattle.text.specs.declared.word.Word.TheVariants.{Writer, Sequence, Volume, Rate, From, To, Valves, Tank, Limit, File, Prepare, Commit, Close, Withdraw, Open, First, Second, Take, Release, Permit}
+use Rattle.text.specs.declared.word.Word.TheVariants.{Writer, Sequence, Volume, Rate, From, To, Valves, Tank, Limit, File, Prepare, Commit, Close, Withdraw, Open, First, Second, Take, Release}
 use Rattle.text.specs.Tokens.{is_word}
 use Rattle.script.specs.declared.fault.ScriptFault.{ScriptFault}
 use Rattle.script.specs.declared.fault.ScriptFault.TheVariants.{NoCall, Numbers}
-use Rattle.script.specs.Numbers.{byte_at, sequence_at, one_byte, two_bytes, four_bytes}
+use Rattle.script.specs.Numbers.{byte_at, sequence_at, one_byte, two_bytes}
 use Rattle.script.specs.Entries.{entries_in, bytes_in, in_terms}
 
 abbrev pub file_with : Result ℕ ScriptFault → Result ℕ ScriptFault → Result (List ℕ × List ℕ) ScriptFault → Result Call ScriptFault
@@ -32,7 +32,7 @@ open_with (Ok r) (Ok items) = Ok (by_reader r (open_read items))
 abbrev pub open_in : List Token → Result Call ScriptFault
 open_in line = cond (nat_lt (length line) 2) (Err Numbers) (open_with (byte_at line 1) (bytes_in (drop 2 line)))
 
--- the nine calls without lists; the other words begin none of these
+-- the eight calls without lists; the other words begin none of these
 abbrev pub short_named : Word → List Token → Result Call ScriptFault
 short_named Prepare line = in_terms (λ x. by_writer x.0 (prepare x.1)) (two_bytes line)
 short_named Commit line = in_terms (λ x. by_writer x.0 (commit x.1)) (two_bytes line)
@@ -42,8 +42,6 @@ short_named First line = in_terms (λ x. by_reader x.0 (first_ask x.1)) (two_byt
 short_named Second line = in_terms (λ x. by_reader x.0 (second_ask x.1)) (two_bytes line)
 short_named Take line = in_terms (λ x. by_reader x.0 (take x.1)) (two_bytes line)
 short_named Release line = in_terms (λ r. by_reader r release) (one_byte line)
-short_named Permit line =
-    in_terms (λ x. by_reader x.0 (permit x.1 x.2 x.3)) (four_bytes line)
 short_named Writer line = Err NoCall
 short_named Sequence line = Err NoCall
 short_named Volume line = Err NoCall

@@ -30,14 +30,3 @@ one_byte line = cond (length line == 2) (byte_at line 1) (Err Numbers)
 -- the word and two numbers
 abbrev pub two_bytes : List Token → Result (ℕ × ℕ) ScriptFault
 two_bytes line = cond (length line == 3) (paired (byte_at line 1) (byte_at line 2)) (Err Numbers)
-
-abbrev pub doubled : Result (ℕ × ℕ) ScriptFault → Result (ℕ × ℕ) ScriptFault → Result (ℕ × ℕ × ℕ × ℕ) ScriptFault
-doubled (Err f) y = Err f
-doubled (Ok x) (Err f) = Err f
-doubled (Ok x) (Ok y) = Ok (x.0, x.1, y.0, y.1)
-
--- the word and four numbers
-abbrev pub four_bytes : List Token → Result (ℕ × ℕ × ℕ × ℕ) ScriptFault
-four_bytes line =
-    cond (length line == 5) (doubled (paired (byte_at line 1) (byte_at line 2)) (paired (byte_at line 3) (byte_at line 4)))
-    (Err Numbers)

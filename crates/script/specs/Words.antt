@@ -1,14 +1,14 @@
 -- Refusals, answers and calls in words.
-use Rattle.std.specs.Prelude.{ℕ, Bool, true, false, List, ◌++◌, vec_len, codes, decimal}
+use Rattle.std.specs.Prelude.{ℕ, List, ◌++◌, vec_len, codes, decimal}
 use Rattle.store.specs.declared.StoreFault.{StoreFault}
 use Rattle.store.specs.declared.StoreFault.TheVariants as store
 use Rattle.rows.specs.declared.fault.Fault.{Fault}
 use Rattle.rows.specs.declared.fault.Fault.TheVariants as fault
 use Rattle.rows.specs.Faults.{number_of}
 use Rattle.runs.specs.declared.calls.Call.{Call}
-use Rattle.runs.specs.declared.calls.Call.TheVariants.{File, Prepare, Commit, Close, Withdraw, Open, First, Second, Take, Release, Permit}
+use Rattle.runs.specs.declared.calls.Call.TheVariants.{File, Prepare, Commit, Close, Withdraw, Open, First, Second, Take, Release}
 use Rattle.runs.specs.declared.calls.Answer.{Answer}
-use Rattle.runs.specs.declared.calls.Answer.TheVariants.{Number, Shown, Permitted, Refused}
+use Rattle.runs.specs.declared.calls.Answer.TheVariants.{Number, Shown, Refused}
 use Rattle.sheet.specs.Faults as sheet
 use Rattle.sheet.specs.Texts.{refused_line}
 use Rattle.script.specs.declared.fault.ScriptFault.{ScriptFault}
@@ -42,7 +42,6 @@ reason_of fault.FirstMissing = codes "a first ask is missing"
 reason_of fault.NotDue = codes "no second ask is due here"
 reason_of fault.Unfinished = codes "the read is not finished"
 reason_of fault.Kind = codes "the body's kind is not the item's"
-reason_of fault.Ticket = codes "the writer has no open order of the ticket's stamp"
 
 abbrev pub refused_words : ℕ → List ℕ → List ℕ
 refused_words n why = codes "refused " ++ (decimal n ++ (codes ": " ++ why))
@@ -50,14 +49,9 @@ refused_words n why = codes "refused " ++ (decimal n ++ (codes ": " ++ why))
 abbrev pub shown_words : ℕ → ℕ → List ℕ
 shown_words stamp code = codes "shows stamp " ++ (decimal stamp ++ (codes " code " ++ decimal code))
 
-abbrev pub yes_words : Bool → List ℕ
-yes_words true = codes "answer yes"
-yes_words false = codes "answer no"
-
 abbrev pub answer_words : Answer → List ℕ
 answer_words (Number n) = codes "answer " ++ decimal n
 answer_words (Shown stamp code) = shown_words stamp code
-answer_words (Permitted b) = yes_words b
 answer_words (Refused f) = refused_words (number_of f) (reason_of f)
 
 -- a word and two numbers
@@ -77,8 +71,6 @@ call_words (First r p) = two_words (codes "first ") r p
 call_words (Second r p) = two_words (codes "second ") r p
 call_words (Take r p) = two_words (codes "take ") r p
 call_words (Release r) = codes "release " ++ decimal r
-call_words (Permit r l q c) =
-    codes "permit " ++ (decimal r ++ (codes " " ++ (decimal l ++ (codes " " ++ (decimal q ++ (codes " " ++ decimal c))))))
 
 abbrev pub no_call : ℕ → List ℕ → List ℕ
 no_call line why = codes "line " ++ (decimal line ++ (codes ": no call: " ++ why))
@@ -86,6 +78,6 @@ no_call line why = codes "line " ++ (decimal line ++ (codes ": no call: " ++ why
 -- a line that is no call: its number and the reason, with the refusal number of an entry
 abbrev pub fault_line : ℕ → ScriptFault → List ℕ
 fault_line line (script.Entry f) = refused_line line (sheet.number_of f) (sheet.reason_of f)
-fault_line line script.NoCall = no_call line (codes "it begins with the name of no call")
+fault_line line script.NoCall = no_call line (codes "it begins with none of the ten calls")
 fault_line line script.Numbers = no_call line (codes "the call wants other numbers")
 fault_line line script.TooLarge = no_call line (codes "a number is too large for its field")

@@ -1,6 +1,6 @@
 // Answers, calls and faults in words.
 ghost use Rattle.std.specs.Prelude.{◌≡◌, IfOk, string_bytes};
-ghost use Rattle.script.specs.Words.{refused_words, shown_words, yes_words, answer_words, call_words, no_call, fault_line};
+ghost use Rattle.script.specs.Words.{refused_words, shown_words, answer_words, call_words, no_call, fault_line};
 
 use super::fault::ScriptFault;
 use super::reasons::reason;
@@ -20,14 +20,6 @@ fn shown_text(heap: Global, stamp: u32, code: u64) -> Result<String, AllocError>
     format!(in heap; "shows stamp {stamp} code {code}")
 }
 
-// A permit's answer.
-fn yes_text(heap: Global, yes: bool) -> Result<String, AllocError>
-    ensures { IfOk result (λ s. string_bytes s ≡ yes_words yes) }
-{
-    let word = if yes { "answer yes" } else { "answer no" };
-    String::from_str(heap, word)
-}
-
 // What was answered.
 pub fn answer_text(heap: Global, answer: Answer) -> Result<String, AllocError>
     ensures { IfOk result (λ s. string_bytes s ≡ answer_words answer) }
@@ -35,7 +27,6 @@ pub fn answer_text(heap: Global, answer: Answer) -> Result<String, AllocError>
     match answer {
         Answer::Number(n) => format!(in heap; "answer {n}"),
         Answer::Shown { stamp, code } => shown_text(heap, stamp, code),
-        Answer::Permitted(yes) => yes_text(heap, yes),
         Answer::Refused(fault) => refused_text(heap, fault.number(), reason(fault)),
     }
 }
@@ -66,12 +57,6 @@ pub fn call_text(heap: Global, call: &Call) -> Result<String, AllocError>
         Call::Second { reader, place } => format!(in heap; "second {reader} {place}"),
         Call::Take { reader, place } => format!(in heap; "take {reader} {place}"),
         Call::Release { reader } => format!(in heap; "release {reader}"),
-        Call::Permit {
-            reader,
-            line_up,
-            quantity,
-            card,
-        } => format!(in heap; "permit {reader} {line_up} {quantity} {card}"),
     }
 }
 
@@ -87,7 +72,7 @@ pub fn fault_text(heap: Global, line: usize, fault: ScriptFault) -> Result<Strin
 {
     match fault {
         ScriptFault::Entry(entry) => refusal_text(heap, line, entry),
-        ScriptFault::NoCall => no_call_text(heap, line, "it begins with the name of no call"),
+        ScriptFault::NoCall => no_call_text(heap, line, "it begins with none of the ten calls"),
         ScriptFault::Numbers => no_call_text(heap, line, "the call wants other numbers"),
         ScriptFault::TooLarge => no_call_text(heap, line, "a number is too large for its field"),
     }

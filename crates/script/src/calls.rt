@@ -6,7 +6,7 @@ ghost use Rattle.script.specs.Lines.{file_with, open_with, file_in, open_in, sho
 
 use super::entries::{Lists, read_entries, read_items};
 use super::fault::ScriptFault;
-use super::numbers::{byte_at, four_bytes, one_byte, sequence_at, two_bytes};
+use super::numbers::{byte_at, one_byte, sequence_at, two_bytes};
 use runs::Call;
 use std::alloc::{AllocError, Global};
 use text::{Token, Word, token_at};
@@ -100,15 +100,6 @@ fn named_call(word: Word, line: &[Token]) -> Result<Call, ScriptFault>
         Word::Release => {
             let reader = one_byte(line)?;
             Ok(Call::Release { reader })
-        }
-        Word::Permit => {
-            let (reader, line_up, quantity, card) = four_bytes(line)?;
-            Ok(Call::Permit {
-                reader,
-                line_up,
-                quantity,
-                card,
-            })
         }
         _ => Err(ScriptFault::NoCall),
     }

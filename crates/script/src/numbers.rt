@@ -1,6 +1,6 @@
 // The numbers after the word of a call.
-ghost use Rattle.std.specs.Prelude.{◌≡◌, ◌+◌};
-ghost use Rattle.script.specs.Numbers.{byte_at, sequence_at, paired, one_byte, two_bytes, four_bytes};
+ghost use Rattle.std.specs.Prelude.{◌≡◌};
+ghost use Rattle.script.specs.Numbers.{byte_at, sequence_at, one_byte, two_bytes};
 
 use super::fault::ScriptFault;
 use text::{Token, token_at};
@@ -41,16 +41,6 @@ pub(super) fn one_byte(line: &[Token]) -> Result<u8, ScriptFault>
     byte_at(line, 1)
 }
 
-// Two bytes, at a place and after it.
-fn pair_at(line: &[Token], place: u8) -> Result<(u8, u8), ScriptFault>
-    ensures { result ≡ paired (byte_at line.now place) (byte_at line.now (place + 1)) }
-{
-    let at = usize::from(place);
-    let first = byte_at(line, at)?;
-    let second = byte_at(line, at + 1)?;
-    Ok((first, second))
-}
-
 // Two bytes after the word, and no more.
 pub(super) fn two_bytes(line: &[Token]) -> Result<(u8, u8), ScriptFault>
     ensures { result ≡ two_bytes line.now }
@@ -58,17 +48,7 @@ pub(super) fn two_bytes(line: &[Token]) -> Result<(u8, u8), ScriptFault>
     if line.len() != 3 {
         return Err(ScriptFault::Numbers);
     }
-    pair_at(line, 1)
-}
-
-// Four bytes after the word, and no more.
-pub(super) fn four_bytes(line: &[Token]) -> Result<(u8, u8, u8, u8), ScriptFault>
-    ensures { result ≡ four_bytes line.now }
-{
-    if line.len() != 5 {
-        return Err(ScriptFault::Numbers);
-    }
-    let (first, second) = pair_at(line, 1)?;
-    let (third, fourth) = pair_at(line, 3)?;
-    Ok((first, second, third, fourth))
+    let first = byte_at(line, 1)?;
+    let second = byte_at(line, 2)?;
+    Ok((first, second))
 }

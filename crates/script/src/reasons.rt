@@ -42,6 +42,5 @@ pub fn reason(fault: Fault) -> &'static str
         Fault::NotDue => "no second ask is due here",
         Fault::Unfinished => "the read is not finished",
         Fault::Kind => "the body's kind is not the item's",
-        Fault::Ticket => "the writer has no open order of the ticket's stamp",
     }
 }

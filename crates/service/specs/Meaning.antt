@@ -1,7 +1,6 @@
 -- What the service means, as a state of the protocol.
-use Rattle.std.specs.Prelude.{◌≡◌, ℕ, Bool, None, Ok, Err, Result, slice_index_or}
+use Rattle.std.specs.Prelude.{◌≡◌, ℕ, None, Ok, Err, Result, slice_index_or}
 use Rattle.store.specs.Meaning.{View}
-use Rattle.store.specs.Outcomes.{one_if}
 use Rattle.protocol.specs.State.{State}
 use Rattle.protocol.specs.Calls.{Answer, refused, accepted}
 use Rattle.rows.specs.declared.fault.Fault.{Fault}
@@ -25,11 +24,6 @@ answer (Err f) = refused (number_of f)
 abbrev pub answer_both : Result (ℕ × ℕ) Fault → Answer
 answer_both (Ok x) = accepted x.0 x.1
 answer_both (Err f) = refused (number_of f)
-
--- a permit answers 1 for yes
-abbrev pub answer_yes : Result Bool Fault → Answer
-answer_yes (Ok b) = accepted (one_if b) 0
-answer_yes (Err f) = refused (number_of f)
 
 -- over a store of the meaning v: no sequence used, nothing open
 pub record Started (v : View) (s : State) : Type 0 where

@@ -1,20 +1,19 @@
 // The calls of readers.
 ghost use Rattle.std.specs.Prelude.{◌≡◌, ◌≤◌};
-ghost use Rattle.protocol.specs.Calls.{by_reader, open_read, first_ask, second_ask, take, release, permit};
+ghost use Rattle.protocol.specs.Calls.{by_reader, open_read, first_ask, second_ask, take, release};
 ghost use Rattle.protocol.specs.Step.{Step};
 ghost use Rattle.rows.specs.Rules.{rule_of};
 ghost use Rattle.protocol.specs.State.{read_of};
 ghost use Rattle.service.specs.Asking.{AskedAgain};
 ghost use Rattle.protocol.specs.Refusals.{refusal, read_item};
 ghost use Rattle.rows.specs.Faults.{About};
-ghost use Rattle.service.specs.Meaning.{meaning, answer, answer_both, answer_yes};
+ghost use Rattle.service.specs.Meaning.{meaning, answer, answer_both};
 ghost use Rattle.service.specs.Bodies.{body_shown, Taken};
 
 use super::lists::is_tangled;
 use super::state::Service;
-use blend::{Body, LineUp, Quantity, TankCard, is_of_kind};
+use blend::{Body, is_of_kind};
 use naming::Naming;
-use protocol::permits;
 use rows::{AtItem, Fault, ReadCall, about, later};
 use store::Store;
 
@@ -102,31 +101,14 @@ impl<S: Store, N: Naming> Service<S, N> {
         if !is_of_kind(self.reads.rows[reader as usize].item(place), B::kind()) {
             return Err(Fault::Kind);
         }
-        let Some(body) = self.reads.rows[reader as usize].body::<B>(place) else {
+        let (stamp, code, _) = self.reads.rows[reader as usize].kept(place);
+        if stamp == 0 {
+            return Ok(None);
+        }
+        let Some(body) = B::decode(code) else {
             return Ok(None);
         };
         Ok(Some(body))
-    }
-
-    // Whether the blend may start, by what the places of a line-up, a quantity and a tank card show.
-    pub fn permit(&self, reader: u8, line_up: u8, quantity: u8, card: u8) -> Result<bool, Fault>
-        ensures { Step (rule_of N.Naming.marks N.Naming.named N.Naming.twice) (meaning S.Store.view self.now) (by_reader reader (permit line_up quantity card)) (answer_yes result) (meaning S.Store.view self.now) }
-    {
-        if reader > 15 {
-            return Err(Fault::Reader);
-        }
-        let call = ReadCall::Permit {
-            line_up,
-            quantity,
-            card,
-        };
-        let row = self.reads.rows[reader as usize];
-        row.admit::<N>(call)?;
-        Ok(permits(
-            row.body::<LineUp>(line_up),
-            row.body::<Quantity>(quantity),
-            row.body::<TankCard>(card),
-        ))
     }
 
     // Ends a read, finished or not; answers how many asks it made.

@@ -1,9 +1,11 @@
-// A station's frames as lines of text: in hexadecimal digits, and requests and replies in words.
+// A station served by lines of text: frames in hexadecimal digits, and requests and replies in words.
 
 mod fault;
 mod hex;
+mod serving;
 mod words;
 
 pub use fault::HexFault;
 pub use hex::{hex_bytes, hex_text};
+pub use serving::{Answer, serve_line};
 pub use words::{refusal_reason, reply_meaning, request_meaning};

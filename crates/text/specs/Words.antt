@@ -2,7 +2,7 @@
 use Rattle.std.specs.Prelude.{ℕ, cond, List, [], ◌∷◌, Some, None, codes, Option}
 use Rattle.std.specs.Str.{bytes_eq}
 use Rattle.text.specs.declared.word.Word.{Word}
-use Rattle.text.specs.declared.word.Word.TheVariants.{Writer, Sequence, Volume, Rate, From, To, Valves, Tank, Limit, File, Prepare, Commit, Close, Withdraw, Open, First, Second, Take, Release, Permit}
+use Rattle.text.specs.declared.word.Word.TheVariants.{Writer, Sequence, Volume, Rate, From, To, Valves, Tank, Limit, File, Prepare, Commit, Close, Withdraw, Open, First, Second, Take, Release}
 
 abbrev pub index_of : Word → ℕ
 index_of Writer = 0
@@ -24,7 +24,6 @@ index_of First = 15
 index_of Second = 16
 index_of Take = 17
 index_of Release = 18
-index_of Permit = 19
 
 abbrev pub spelled : Word → List ℕ
 spelled Writer = codes "writer"
@@ -46,12 +45,11 @@ spelled First = codes "first"
 spelled Second = codes "second"
 spelled Take = codes "take"
 spelled Release = codes "release"
-spelled Permit = codes "permit"
 
 abbrev pub all_words : List Word
 all_words =
     Writer ∷ (Sequence ∷ (Volume ∷ (Rate ∷ (From ∷ (To ∷ (Valves ∷ (Tank ∷ (Limit ∷ (File ∷
-    (Prepare ∷ (Commit ∷ (Close ∷ (Withdraw ∷ (Open ∷ (First ∷ (Second ∷ (Take ∷ (Release ∷ (Permit ∷ [])))))))))))))))))))
+    (Prepare ∷ (Commit ∷ (Close ∷ (Withdraw ∷ (Open ∷ (First ∷ (Second ∷ (Take ∷ (Release ∷ []))))))))))))))))))
 
 abbrev pub word_among : List Word → List ℕ → Option Word
 word_among [] t = None

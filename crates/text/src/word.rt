@@ -24,10 +24,9 @@ pub enum Word {
     Second,
     Take,
     Release,
-    Permit,
 }
 
-const ALL: [Word; 20] = [
+const ALL: [Word; 19] = [
     Word::Writer,
     Word::Sequence,
     Word::Volume,
@@ -47,7 +46,6 @@ const ALL: [Word; 20] = [
     Word::Second,
     Word::Take,
     Word::Release,
-    Word::Permit,
 ];
 
 impl Word {
@@ -81,7 +79,6 @@ impl Word {
             Word::Second => b"second",
             Word::Take => b"take",
             Word::Release => b"release",
-            Word::Permit => b"permit",
         }
     }
 

@@ -58,6 +58,3 @@ returns-in-Unfinished c = sym (ap reason_of c.in-Unfinished.is)
 
 pub returns-in-Kind : goal.returns-in-Kind
 returns-in-Kind c = sym (ap reason_of c.in-Kind.is)
-
-pub returns-in-Ticket : goal.returns-in-Ticket
-returns-in-Ticket c = sym (ap reason_of c.in-Ticket.is)
