@@ -1,5 +1,7 @@
 // The vocabulary of blend orders: items and their kinds, stamps and their order, bodies and their codes. Nothing here allocates.
 
+#![tactic(auto)]
+
 mod body;
 mod card;
 mod item;

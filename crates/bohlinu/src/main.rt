@@ -1,4 +1,7 @@
 // Bohlinu: plays scripts of calls, checks order sheets, and serves request frames to a station.
+
+#![tactic(auto)]
+
 mod reports;
 mod scripts;
 mod sheets;

@@ -1,4 +1,7 @@
 // Work over any store, and over one put together of others.
+
+#![tactic(auto)]
+
 ghost use Rattle.std.specs.Prelude.{◌≡◌, min, IfOk, Ok};
 ghost use Rattle.store.specs.Room.{Fresh};
 ghost use Rattle.client.specs.Publish.{PublishOutcome, TakesTwo};

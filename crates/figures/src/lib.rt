@@ -1,4 +1,7 @@
 // The worked figures: computed by the code, and proved together from the definitions that the contracts cite.
+
+#![tactic(auto)]
+
 ghost use Rattle.std.specs.Prelude.{◌≡◌};
 ghost use Rattle.figures.specs.Figures.{Figures, the_figures};
 

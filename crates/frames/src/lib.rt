@@ -1,5 +1,7 @@
 // Requests to a store and its replies as frames of bytes, and serving them. Nothing here allocates.
 
+#![tactic(auto)]
+
 mod fault;
 mod place;
 mod reply;

@@ -1,4 +1,7 @@
 // A store that is a journal of records, only ever appended to. Its meaning is a function of its bytes; no call of it allocates.
+
+#![tactic(auto)]
+
 ghost use Rattle.std.specs.Prelude.{◌≡◌, ◌-◌, ◌*◌, ◌≤◌, length, drop, replicate};
 ghost use Rattle.journal.specs.Records.{records, used};
 ghost use Rattle.journal.specs.Held.{versions, Waits, NoBlank, LastsHeld};

@@ -1,4 +1,7 @@
 // Numbers laid out as bytes, high byte first, by widths. Nothing here allocates.
+
+#![tactic(auto)]
+
 ghost use Rattle.std.specs.Prelude.{◌≡◌, ◌+◌, [], ◌∷◌, length};
 ghost use Rattle.layout.specs.Layout.{laid, Long, Bytes, Again, Only, FitsRead};
 ghost use Rattle.layout.specs.Bodies.{put_widths, commit_widths, version_widths, version_in};

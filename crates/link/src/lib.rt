@@ -1,4 +1,7 @@
 // A link to a store: each call is passed to it as a frame, and the answer is read from the reply frame. Nothing here allocates.
+
+#![tactic(auto)]
+
 ghost use Rattle.std.specs.Prelude.{◌≡◌, ◌≤◌, take, None};
 ghost use Rattle.frames.specs.Requests.{request_frame, request_fault};
 ghost use Rattle.link.specs.Passing.{fault_with, done_from, version_from, reply_from};

@@ -1,5 +1,7 @@
 // Rules by which a version's mark names the items of its order. A rule has functions and no value, and nothing here allocates.
 
+#![tactic(auto)]
+
 mod filter;
 mod list;
 mod rule;

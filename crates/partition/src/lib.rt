@@ -1,4 +1,7 @@
 // Two stores as one: items below the bound live in the first, the others in the second.
+
+#![tactic(auto)]
+
 ghost use Rattle.std.specs.Prelude.{◌≡◌, nat_lt};
 ghost use Rattle.store.specs.Outcomes.{Same};
 ghost use Rattle.partition.specs.Sides.{parted, partition_view};

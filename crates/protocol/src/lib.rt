@@ -1,4 +1,7 @@
 // The protocol of orders and reads over one store: its states, its calls, and the law over whole runs. Definitions, and the theorem.
+
+#![tactic(auto)]
+
 ghost use Rattle.protocol.specs.Law.{ReadsStayWhole};
 
 // After every beginning of every run from an untouched state, reads are whole.

@@ -1,4 +1,7 @@
 // A store with a quota: of each item it puts at most as many new versions into the store below as its limit.
+
+#![tactic(auto)]
+
 ghost use Rattle.std.specs.Prelude.{◌≡◌, ℕ, get_or};
 ghost use Rattle.store.specs.Outcomes.{Same};
 ghost use Rattle.quota.specs.Limit.{limited, quota_view};

@@ -1,5 +1,7 @@
 // Order rows and read rows: what each writer and each reader has open, and which calls a row admits. Nothing here allocates.
 
+#![tactic(auto)]
+
 mod asks;
 mod fault;
 mod flags;

@@ -1,5 +1,7 @@
 // Calls as values, and runs of them: the law over whole runs stands on `run`.
 
+#![tactic(auto)]
+
 mod calls;
 mod driver;
 

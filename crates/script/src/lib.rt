@@ -1,5 +1,7 @@
 // A script of calls, one a line: its lines read as calls, and calls and answers in words.
 
+#![tactic(auto)]
+
 mod answers;
 mod calls;
 mod entries;

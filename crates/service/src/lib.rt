@@ -1,5 +1,7 @@
 // The service: orders and reads over one store and one naming rule. What its calls do never allocates.
 
+#![tactic(auto)]
+
 mod lists;
 mod orders;
 mod reads;

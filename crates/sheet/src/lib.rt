@@ -1,5 +1,7 @@
 // An order sheet: a heading with writer and sequence, then one item a line with its body in words.
 
+#![tactic(auto)]
+
 mod entry;
 mod fault;
 mod heading;

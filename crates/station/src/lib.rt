@@ -1,5 +1,7 @@
 // A station served by lines of text: frames in hexadecimal digits, and requests and replies in words.
 
+#![tactic(auto)]
+
 mod fault;
 mod hex;
 mod serving;

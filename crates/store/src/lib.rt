@@ -1,4 +1,7 @@
 // The interface of a station's store of versions: what it means, and what each of its four calls does to that meaning.
+
+#![tactic(auto)]
+
 ghost use Rattle.std.specs.Prelude.{◌≡◌};
 ghost use Rattle.store.specs.Faults.{number_of};
 ghost use Rattle.store.specs.Meaning.{View, LastHeld, later_version, content_at};
@@ -58,7 +61,7 @@ pub trait Store {
 
 // Code and mark of the version that a store holds with a stamp; none for item 0 and stamp 0, which are no version's.
 pub fn held_at<S: Store>(store: &S, item: u8, stamp: u32) -> Option<(u64, u64)>
-    ensures { result ≡ content_at (view store.now) item stamp }
+    ensures { result ≡ content_at (S.view store.now) item stamp }
 {
     match store.pick(item, [stamp; 8]) {
         Ok((found, code, mark)) => { if found == 0 { None } else { Some((code, mark)) } }

@@ -1,4 +1,7 @@
 // A store that is a table of rows. Its memory is reserved when it is made, so no call of it allocates.
+
+#![tactic(auto)]
+
 ghost use Rattle.std.specs.Prelude.{◌≡◌, ℕ, ◌<◌, ◌≤◌, true, false, is_some, vec_len, vec_capacity, slice_index};
 ghost use Rattle.table.specs.Rows.{lookup};
 

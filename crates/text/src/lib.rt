@@ -1,5 +1,7 @@
 // Lines of text as tokens: decimal numbers and the words that sheets and scripts use.
 
+#![tactic(auto)]
+
 mod number;
 mod token;
 mod word;

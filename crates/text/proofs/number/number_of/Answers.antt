@@ -5,16 +5,16 @@ use Rattle.text.proofs.Steps.{some_digits, digits_more}
 use Rattle.text.proofs.number.number_of.Goals as goal
 
 pub loop-b-init : goal.loop-b-init
-loop-b-init c = some_digits c.args.text.now c.if-is-empty.ensures
+loop-b-init c = some_digits c.args.text.now c.if-is_empty.ensures
 
 pub loop-b-preserved : goal.loop-b-preserved
 loop-b-preserved c =
     sym (digits_more c.loop-b.n c.args.text.now c.loop-b.b-index (Some c.in-Some.more) (omega arith) c.in-Some.ensures) ∙
     c.loop-b.invariant
 
-pub returns-in-default : goal.returns-in-default
-returns-in-default c =
-    sym (digits_more c.loop-b.n c.args.text.now c.loop-b.b-index None (omega arith) c.in-default.ensures) ∙
+pub returns-in_default : goal.returns-in_default
+returns-in_default c =
+    sym (digits_more c.loop-b.n c.args.text.now c.loop-b.b-index None (omega arith) c.in_default.ensures) ∙
     c.loop-b.invariant
 
 pub returns : goal.returns
