@@ -14,8 +14,8 @@ import re
 import sys
 
 SIGNATURE = re.compile(r"^(?:(?:pub|abbrev|unfoldable)\s+)*([^\s(){}\[\].,;:]+(?:\s+[^\s(){}\[\].,;:]+)*)\s+:(?:\s|$)")
-HEAD = re.compile(r"^(?:pub\s+)?(?:data|record)\s+([^\s(){}\[\].,;:]+)")
-MEMBER = re.compile(r"^\s+(?:pub\s+)?([^\s(){}\[\].,;:]+)\s*:\s")
+HEAD = re.compile(r"^\s*(?:pub\s+)?(?:data|record)\s+([^\s(){}\[\].,;:=]+)\s+[:({]")
+MEMBER = re.compile(r"^\s+(?:(?:pub|abbrev|unfoldable)\s+)*([^\s(){}\[\].,;:]+)\s*:\s")
 MADE = re.compile(r":\s*(?:goal|goals|need|needs)\.")
 WORD = re.compile(r"[^\s(){}\[\].,;«»⌜⌝&*]+")
 WORDS_THAT_DECLARE = {"pub", "abbrev", "unfoldable", "data", "record", "use", "mod", "ruleset", "unfolding"}
@@ -36,18 +36,15 @@ def text_of(path):
 
 def declared(text):
     """The names that a file of definitions or proofs declares, but for answers to goals."""
-    inside = False
     for line in text.split("\n"):
         head = HEAD.match(line)
         if head:
-            inside = True
             yield head.group(1)
         elif line[:1].isspace():
-            member = MEMBER.match(line) if inside else None
+            member = MEMBER.match(line)
             if member:
                 yield member.group(1)
         elif line.strip():
-            inside = False
             signature = SIGNATURE.match(line)
             if signature and not MADE.search(line) and not line.startswith("--"):
                 yield from (w for w in signature.group(1).split() if w not in WORDS_THAT_DECLARE)

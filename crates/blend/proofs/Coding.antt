@@ -16,14 +16,14 @@ module _ {B : Type 0} (codes : B → Option ℕ) (decodes : ℕ → Option B) wh
   found c (Some b) e back h = (b, back b e)
 
   -- a code that decodes is some body's
-  pub decodes-only : ((c : ℕ) (b : B) → decodes c ≡ Some b → codes b ≡ Some c) →
+  pub decodes_only : ((c : ℕ) (b : B) → decodes c ≡ Some b → codes b ≡ Some c) →
       (c : ℕ) → is_some (decodes c) ≡ true → (b : B) × (codes b ≡ Some c)
-  decodes-only back c h = found c (decodes c) refl (back c) h
+  decodes_only back c h = found c (decodes c) refl (back c) h
 
   -- a body's code decodes
-  pub decodes-always : ((c : ℕ) (b : B) → codes b ≡ Some c → decodes c ≡ Some b) →
+  pub decodes_always : ((c : ℕ) (b : B) → codes b ≡ Some c → decodes c ≡ Some b) →
       (c : ℕ) → ((b : B) × (codes b ≡ Some c)) → is_some (decodes c) ≡ true
-  decodes-always forth c h = ap is_some (forth c h.0 h.1)
+  decodes_always forth c h = ap is_some (forth c h.0 h.1)
 
 pub quantity_back : (c : ℕ) (b : Quantity) → quantity_at c ≡ Some b → quantity_code b ≡ Some c
 quantity_back c b e = grind arith
@@ -44,14 +44,14 @@ pub card_forth : (c : ℕ) (b : TankCard) → card_code b ≡ Some c → card_at
 card_forth c b e = grind arith
 
 kind_only : (k : Kind) (c : ℕ) → fits_kind k c ≡ true → SomeBody (Some k) c
-kind_only kind.Quantity c h = decodes-only quantity_code quantity_at quantity_back c h
-kind_only kind.LineUp c h = decodes-only line_up_code line_up_at line_up_back c h
-kind_only kind.TankCard c h = decodes-only card_code card_at card_back c h
+kind_only kind.Quantity c h = decodes_only quantity_code quantity_at quantity_back c h
+kind_only kind.LineUp c h = decodes_only line_up_code line_up_at line_up_back c h
+kind_only kind.TankCard c h = decodes_only card_code card_at card_back c h
 
 kind_always : (k : Kind) (c : ℕ) → SomeBody (Some k) c → fits_kind k c ≡ true
-kind_always kind.Quantity c h = decodes-always quantity_code quantity_at quantity_forth c h
-kind_always kind.LineUp c h = decodes-always line_up_code line_up_at line_up_forth c h
-kind_always kind.TankCard c h = decodes-always card_code card_at card_forth c h
+kind_always kind.Quantity c h = decodes_always quantity_code quantity_at quantity_forth c h
+kind_always kind.LineUp c h = decodes_always line_up_code line_up_at line_up_forth c h
+kind_always kind.TankCard c h = decodes_always card_code card_at card_forth c h
 
 fits_only : (k : Option Kind) (c : ℕ) → fits_by k c ≡ true → SomeBody k c
 fits_only None c h = let z : ◌≡◌ {A = ℕ} 0 1 = cc in omega arith

@@ -14,7 +14,7 @@ use Rattle.protocol.specs.History.{opened, with_first, with_second, progress_in}
 use Rattle.protocol.specs.Law.{Trace, start, next}
 use Rattle.figures.specs.Example.{list_rule, example, ReadOvertakes}
 use Rattle.protocol.proofs.Basics.{upd_off}
-use Rattle.protocol.proofs.Tests.{finished-to}
+use Rattle.protocol.proofs.Tests.{finished_to}
 use Rattle.protocol.proofs.Inv.{Held}
 
 lawful : Lawful list_rule
@@ -166,7 +166,7 @@ read_overtakes = record {
   prepared = (inr (inl (refl, refl)), inl (refl, refl));
   read = with_second 1 (with_first 1 0 (with_first 0 17 (opened items)));
   is_read = refl;
-  finished = finished-to list_rule (progress_in list_rule example (with_second 1 (with_first 1 0 (with_first 0 17 (opened items))))) refl;
+  finished = finished_to list_rule (progress_in list_rule example (with_second 1 (with_first 1 0 (with_first 0 17 (opened items))))) refl;
   first = (s₈, (refl, (refl, refl), refl));
   second = (s₈, (refl, (refl, refl), refl));
   asks = (set_reader s₈ 0 None, (refl, (refl, refl), refl));

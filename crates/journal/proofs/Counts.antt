@@ -4,7 +4,7 @@ use Rattle.std.proofs.lemmas.Bool.{eq-eqb, ne_eqb, eqb-true, cases_Bool, cond-fa
 use Rattle.blend.specs.Stamps.{later, later_of}
 use Rattle.blend.proofs.Order.{onward, not_later_on, never_itself}
 use Rattle.store.specs.Meaning.{Content, picked}
-use Rattle.store.proofs.Choosing.{pick_more, pick-skips}
+use Rattle.store.proofs.Choosing.{pick_more, pick_skips}
 use Rattle.journal.specs.declared.record.Record.{Record}
 use Rattle.journal.specs.declared.record.Record.TheVariants.{Put, Commit}
 use Rattle.journal.specs.Records.{size, used}
@@ -58,7 +58,7 @@ none_from (Some x) e = absurd (true≢false e)
 -- one more stamp of a pick
 picked_by : (h : ℕ → Option Content) → h 0 ≡ None → (ss : List ℕ) (s : ℕ) (o : Option Content) → h s ≡ o →
     picked h (ss ++ s ∷ []) ≡ better (picked h ss) s o
-picked_by h none ss s None e = pick-skips h ss s e
+picked_by h none ss s None e = pick_skips h ss s e
 picked_by h none ss s (Some x) e = pick_more h none ss s x e
 
 pub picked_push : (h : ℕ → Option Content) → h 0 ≡ None → (ss : List ℕ) (s : ℕ) → picked h (ss ++ s ∷ []) ≡ better (picked h ss) s (h s)

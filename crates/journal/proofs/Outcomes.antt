@@ -33,8 +33,8 @@ module _ (bs : List ℕ) (n : ℕ) (e : bs ≡ replicate n 0) where
   none : records bs ≡ []
   none = ap records e ∙ zeros_none n
 
-  pub empty-kept : Kept bs 0 0
-  empty-kept =
+  pub empty_kept : Kept bs 0 0
+  empty_kept =
       let l : length bs ≡ n = ap length e ∙ length-replicate n 0 in
       let z : n ≡ length bs - 0 = omega arith in
       record {
@@ -48,8 +48,8 @@ module _ (bs : List ℕ) (n : ℕ) (e : bs ≡ replicate n 0) where
         committed = λ i h. absurd (omega (arith, ap (λ (rs : List Record). last_of rs i) none));
       }
 
-  pub empty-fresh : Fresh (n / 28) (bytes_view bs)
-  empty-fresh =
+  pub empty_fresh : Fresh (n / 28) (bytes_view bs)
+  empty_fresh =
       let l : length bs ≡ n = ap length e ∙ length-replicate n 0 in
       let v = ap versions none in
       record {

@@ -57,15 +57,15 @@ module _ (j : Journal) (now last : List ℕ) (long : vec_len j.bytes ≡ length 
       let e = w ∙ ap (appended j.end r) lent in
       with_items_is j.bytes last (ap length e ∙ length_appended bs j.end r room ∙ sym long) ∙ e
 
-  pub put-at : (n i s c m : ℕ) → n ≡ 22 → Fits (Put i s c m) → 0 < i → 0 < s → lookup (records bs) i s ≡ None → 0 < (bytes_view bs).space i →
+  pub put_at : (n i s c m : ℕ) → n ≡ 22 → Fits (Put i s c m) → 0 < i → 0 < s → lookup (records bs) i s ≡ None → 0 < (bytes_view bs).space i →
       last ≡ appended j.end (Put i s c m) now → PutOf j last n i s c m
-  put-at n i s c m e f io so none room w =
+  put_at n i s c m e f io so none room w =
       let k = kept_of j in
       let less : j.count < length bs / 28 = omega (arith, k.counted) in
       put_step bs _ j.end n j.count i s c m k e f io so none less (written (Put i s c m) (put_room bs j.end j.count k less) w)
 
-  pub commit-at : (n i s : ℕ) → n ≡ 6 → Fits (Commit i s) → 0 < i → 0 < s → is_some (lookup (records bs) i s) ≡ true →
+  pub commit_at : (n i s : ℕ) → n ≡ 6 → Fits (Commit i s) → 0 < i → 0 < s → is_some (lookup (records bs) i s) ≡ true →
       later s (last_of (records bs) i) ≡ true → last ≡ appended j.end (Commit i s) now → CommitOf j last n i s
-  commit-at n i s e f io so held up w =
+  commit_at n i s e f io so held up w =
       let k = kept_of j in
       commit_step bs _ j.end n j.count i s k e f io so held up (written (Commit i s) (commit_room bs j.end j.count i s k held up) w)

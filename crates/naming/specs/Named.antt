@@ -53,7 +53,7 @@ filter_complete xs k h =
     and_from _ _ (lt-ltb 0 (slice_index xs k) h) (and_from _ _ (fold_sets (λ x. x % 64) low xs 0 k h) (fold_sets (λ x. x / 4) high xs 0 k h))
 
 -- what `contains` answers
-pub has_is : (i : ℕ) (xs : List ℕ) (r : Bool) → IsAnyAnswer (λ y t. Decides t (y ≡ i)) xs r → r ≡ has i xs
+pub has_is : (i : ℕ) (xs : List ℕ) (r : Bool) → IsAnyAnswer (λ y t. nat_eq y i ≡ t) xs r → r ≡ has i xs
 has_is i xs r h =
     same_from_decides r (has i xs) (contains_decides nat_eq Decides-eqb xs i r h)
     (Decides-by_or (λ x. nat_eq x i) (λ x. x ≡ i) (has i) (λ x. Decides-eqb x i) refl (λ _ _. refl) xs)

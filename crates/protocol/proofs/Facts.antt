@@ -8,7 +8,7 @@ use Rattle.protocol.specs.Asks.{DueFirst, DueSecond, Finished, progress, all_bel
 use Rattle.protocol.specs.Refusals.{tests, bad_size, all_prepared}
 use Rattle.protocol.specs.Step.{Step, filed_row, set_writer}
 use Rattle.protocol.proofs.Basics.{none_of}
-use Rattle.protocol.proofs.Tests.{clear, all_true, all_false, Listed, listed_from, order_there, read_there, asks-to, finished-to}
+use Rattle.protocol.proofs.Tests.{clear, all_true, all_false, Listed, listed_from, order_there, read_there, asks_to, finished_to}
 
 -- ── orders ──
 
@@ -87,16 +87,16 @@ module _ (ν : Naming) (s s' : State) (r a b : ℕ) where
       let t = clear (tests ν s (by_reader r (open_read items))) z.0 in
       (ltb-false 15 r t.0, listed_from items t.1.1.0 t.1.1.1.0 z.1.0)
 
-  pub first-asks : (p : ℕ) → Step ν s (by_reader r (first_ask p)) (accepted a b) s' → ReadsAt s r × DueFirst (progress (read_of s r)) p
-  first-asks p z =
+  pub first_asks : (p : ℕ) → Step ν s (by_reader r (first_ask p)) (accepted a b) s' → ReadsAt s r × DueFirst (progress (read_of s r)) p
+  first_asks p z =
       let t = clear (tests ν s (by_reader r (first_ask p))) z.0 in (
         record { low = ltb-false 15 r t.0; is_open = read_there (s.readers r) t.1.0 },
         record { within = leb-false (length (read_of s r).items) p t.1.1.0; not_made = t.1.1.1.0 },
       )
 
-  pub second-asks : (p : ℕ) → Step ν s (by_reader r (second_ask p)) (accepted a b) s' →
+  pub second_asks : (p : ℕ) → Step ν s (by_reader r (second_ask p)) (accepted a b) s' →
       ReadsAt s r × DueSecond ν (progress (read_of s r)) p
-  second-asks p z =
+  second_asks p z =
       let t = clear (tests ν s (by_reader r (second_ask p))) z.0 in
       let x = progress (read_of s r) in
       let due = and_parts (asks_again ν x p) (not (x.again p)) (not-false (due_second ν x p) t.1.1.1.1.0) in (
@@ -104,7 +104,7 @@ module _ (ν : Naming) (s s' : State) (r a b : ℕ) where
         record {
           within = leb-false (length x.items) p t.1.1.0;
           firsts = all_true (length x.items) x.made (not-false (all_below (length x.items) x.made) t.1.1.1.0);
-          asks = asks-to ν x p due.0;
+          asks = asks_to ν x p due.0;
           not_made = not-true (x.again p) due.1;
         },
       )
@@ -115,7 +115,7 @@ module _ (ν : Naming) (s s' : State) (r a b : ℕ) where
       let t = clear (tests ν s (by_reader r (take p))) z.0 in (
         record { low = ltb-false 15 r t.0; is_open = read_there (s.readers r) t.1.0 },
         leb-false (length (read_of s r).items) p t.1.1.0,
-        finished-to ν (progress (read_of s r)) (not-false _ t.1.1.1.0),
+        finished_to ν (progress (read_of s r)) (not-false _ t.1.1.1.0),
       )
 
   pub releases : Step ν s (by_reader r release) (accepted a b) s' → ReadsAt s r

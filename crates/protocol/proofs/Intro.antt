@@ -45,40 +45,40 @@ module _ (ν : Naming) (s s' : State) (w : ℕ) (low : w ≤ 15) where
   )
 
   module _ (x : OpenOrder) (e : (s.writers w).current ≡ Some x) where
-    pub close-in : (a : ℕ) → complete x ≡ true → a ≡ x.order.stamp → s' ≡ set_writer s w (with_order (s.writers w) None) →
+    pub close_in : (a : ℕ) → complete x ≡ true → a ≡ x.order.stamp → s' ≡ set_writer s w (with_order (s.writers w) None) →
         Step ν s (by_writer w close) (accepted a 0) s'
-    close-in a all n after = (rw (le-ltb 15 w low, e, all) refl, (rw e n, after), refl)
+    close_in a all n after = (rw (le-ltb 15 w low, e, all) refl, (rw e n, after), refl)
 
-    pub withdraw-in : (a : ℕ) → all_prepared x ≡ false → a ≡ x.order.stamp → s' ≡ set_writer s w (with_order (s.writers w) None) →
+    pub withdraw_in : (a : ℕ) → all_prepared x ≡ false → a ≡ x.order.stamp → s' ≡ set_writer s w (with_order (s.writers w) None) →
         Step ν s (by_writer w withdraw) (accepted a 0) s'
-    withdraw-in a all n after = (rw (le-ltb 15 w low, e, all) refl, (rw e n, after), refl)
+    withdraw_in a all n after = (rw (le-ltb 15 w low, e, all) refl, (rw e n, after), refl)
 
     module _ (k : ℕ) (within : k < length x.order.items) where
-      pub prepare-in : (a : ℕ) → Prepares ν s x w k a s' → Step ν s (by_writer w (prepare k)) (accepted a 0) s'
-      prepare-in a d = (rw (le-ltb 15 w low, e, lt-leb (length x.order.items) k within) d.puts.passes, rw e d, refl)
+      pub prepare_in : (a : ℕ) → Prepares ν s x w k a s' → Step ν s (by_writer w (prepare k)) (accepted a 0) s'
+      prepare_in a d = (rw (le-ltb 15 w low, e, lt-leb (length x.order.items) k within) d.puts.passes, rw e d, refl)
 
-      pub prepare-no : (n : ℕ) →
+      pub prepare_no : (n : ℕ) →
           first_of (put_tests s.store (item_at x k) x.order.stamp (code_at x k) (mark_for ν x.order.items)) ≡ Some n →
           s' ≡ s → Step ν s (by_writer w (prepare k)) (refused n) s'
-      prepare-no n why same = (rw (le-ltb 15 w low, e, lt-leb (length x.order.items) k within) why, same)
+      prepare_no n why same = (rw (le-ltb 15 w low, e, lt-leb (length x.order.items) k within) why, same)
 
-      pub commit-in : (a : ℕ) → all_prepared x ≡ true → Commits s x w k a s' → Step ν s (by_writer w (commit k)) (accepted a 0) s'
-      commit-in a all d = (rw (le-ltb 15 w low, e, lt-leb (length x.order.items) k within, all) d.commits.passes, rw e d, refl)
+      pub commit_in : (a : ℕ) → all_prepared x ≡ true → Commits s x w k a s' → Step ν s (by_writer w (commit k)) (accepted a 0) s'
+      commit_in a all d = (rw (le-ltb 15 w low, e, lt-leb (length x.order.items) k within, all) d.commits.passes, rw e d, refl)
 
-      pub commit-no : (n : ℕ) → all_prepared x ≡ true → first_of (commit_tests s.store (item_at x k) x.order.stamp) ≡ Some n →
+      pub commit_no : (n : ℕ) → all_prepared x ≡ true → first_of (commit_tests s.store (item_at x k) x.order.stamp) ≡ Some n →
           s' ≡ s → Step ν s (by_writer w (commit k)) (refused n) s'
-      commit-no n all why same = (rw (le-ltb 15 w low, e, lt-leb (length x.order.items) k within, all) why, same)
+      commit_no n all why same = (rw (le-ltb 15 w low, e, lt-leb (length x.order.items) k within, all) why, same)
 
       -- the order is gathering
-      pub commit-early : all_prepared x ≡ false → s' ≡ s → Step ν s (by_writer w (commit k)) (refused 18) s'
-      commit-early all same = (rw (le-ltb 15 w low, e, lt-leb (length x.order.items) k within, all) refl, same)
+      pub commit_early : all_prepared x ≡ false → s' ≡ s → Step ν s (by_writer w (commit k)) (refused 18) s'
+      commit_early all same = (rw (le-ltb 15 w low, e, lt-leb (length x.order.items) k within, all) refl, same)
 
     module _ (k : ℕ) (out : length x.order.items ≤ k) (same : s' ≡ s) where
-      pub prepare-out : Step ν s (by_writer w (prepare k)) (refused 17) s'
-      prepare-out = (rw (le-ltb 15 w low, e, le-leb (length x.order.items) k out) refl, same)
+      pub prepare_out : Step ν s (by_writer w (prepare k)) (refused 17) s'
+      prepare_out = (rw (le-ltb 15 w low, e, le-leb (length x.order.items) k out) refl, same)
 
-      pub commit-out : Step ν s (by_writer w (commit k)) (refused 17) s'
-      commit-out = (rw (le-ltb 15 w low, e, le-leb (length x.order.items) k out) refl, same)
+      pub commit_out : Step ν s (by_writer w (commit k)) (refused 17) s'
+      commit_out = (rw (le-ltb 15 w low, e, le-leb (length x.order.items) k out) refl, same)
 
 -- ── readers ──
 
@@ -88,8 +88,8 @@ module _ (ν : Naming) (s s' : State) (r : ℕ) (low : r ≤ 15) where
   open_in items a e size good bytes n after = (rw (le-ltb 15 r low, e, size, good) refl, (bytes, n, after), refl)
 
   module _ (x : OpenRead) (e : s.readers r ≡ Some x) where
-    pub release-in : (a : ℕ) → a ≡ asks_made (progress x) → s' ≡ set_reader s r None → Step ν s (by_reader r release) (accepted a 0) s'
-    release-in a n after = (rw (le-ltb 15 r low, e) refl, (rw e n, after), refl)
+    pub release_in : (a : ℕ) → a ≡ asks_made (progress x) → s' ≡ set_reader s r None → Step ν s (by_reader r release) (accepted a 0) s'
+    release_in a n after = (rw (le-ltb 15 r low, e) refl, (rw e n, after), refl)
 
     module _ (p : ℕ) (within : p < length x.items) where
       pub first_in : (a : ℕ) → is_some (x.first p) ≡ false → first_of (question_tests (read_item x p)) ≡ None →
@@ -101,9 +101,9 @@ module _ (ν : Naming) (s s' : State) (r : ℕ) (low : r ≤ 15) where
         refl,
       )
 
-      pub first-no : (n : ℕ) → is_some (x.first p) ≡ false → first_of (question_tests (read_item x p)) ≡ Some n → s' ≡ s →
+      pub first_no : (n : ℕ) → is_some (x.first p) ≡ false → first_of (question_tests (read_item x p)) ≡ Some n → s' ≡ s →
           Step ν s (by_reader r (first_ask p)) (refused n) s'
-      first-no n unasked why same = (rw (le-ltb 15 r low, e, lt-leb (length x.items) p within, unasked) why, same)
+      first_no n unasked why same = (rw (le-ltb 15 r low, e, lt-leb (length x.items) p within, unasked) why, same)
 
       pub second_in : (a : ℕ) → all_made (progress x) ≡ true → due_second ν (progress x) p ≡ true →
           first_of (question_tests (read_item x p)) ≡ None → (v : Version) → v ≡ second_version ν s.store x p → a ≡ (later_version (x.kept p) v).0 →
@@ -117,16 +117,16 @@ module _ (ν : Naming) (s s' : State) (r : ℕ) (low : r ≤ 15) where
         refl,
       )
 
-      pub second-no : (n : ℕ) → all_made (progress x) ≡ true → due_second ν (progress x) p ≡ true →
+      pub second_no : (n : ℕ) → all_made (progress x) ≡ true → due_second ν (progress x) p ≡ true →
           first_of (question_tests (read_item x p)) ≡ Some n → s' ≡ s → Step ν s (by_reader r (second_ask p)) (refused n) s'
-      second-no n made due why same = (rw (le-ltb 15 r low, e, lt-leb (length x.items) p within, made, due) why, same)
+      second_no n made due why same = (rw (le-ltb 15 r low, e, lt-leb (length x.items) p within, made, due) why, same)
 
-      pub second-missing : all_made (progress x) ≡ false → s' ≡ s → Step ν s (by_reader r (second_ask p)) (refused 25) s'
-      second-missing made same = (rw (le-ltb 15 r low, e, lt-leb (length x.items) p within, made) refl, same)
+      pub second_missing : all_made (progress x) ≡ false → s' ≡ s → Step ν s (by_reader r (second_ask p)) (refused 25) s'
+      second_missing made same = (rw (le-ltb 15 r low, e, lt-leb (length x.items) p within, made) refl, same)
 
-      pub second-undue : all_made (progress x) ≡ true → due_second ν (progress x) p ≡ false → s' ≡ s →
+      pub second_undue : all_made (progress x) ≡ true → due_second ν (progress x) p ≡ false → s' ≡ s →
           Step ν s (by_reader r (second_ask p)) (refused 26) s'
-      second-undue made due same = (rw (le-ltb 15 r low, e, lt-leb (length x.items) p within, made, due) refl, same)
+      second_undue made due same = (rw (le-ltb 15 r low, e, lt-leb (length x.items) p within, made, due) refl, same)
 
       pub take_in : (a b : ℕ) → finished ν (progress x) ≡ true → a ≡ (x.kept p).0 → b ≡ (x.kept p).1 → s' ≡ s →
           Step ν s (by_reader r (take p)) (accepted a b) s'
@@ -136,15 +136,15 @@ module _ (ν : Naming) (s s' : State) (r : ℕ) (low : r ≤ 15) where
         m ∙ sym (ap (λ (o : Option OpenRead). ((the_read o).kept p).1) e),
       )
 
-      pub take-early : finished ν (progress x) ≡ false → s' ≡ s → Step ν s (by_reader r (take p)) (refused 27) s'
-      take-early done same = (rw (le-ltb 15 r low, e, lt-leb (length x.items) p within, done) refl, same)
+      pub take_early : finished ν (progress x) ≡ false → s' ≡ s → Step ν s (by_reader r (take p)) (refused 27) s'
+      take_early done same = (rw (le-ltb 15 r low, e, lt-leb (length x.items) p within, done) refl, same)
 
     module _ (p : ℕ) (out : length x.items ≤ p) (same : s' ≡ s) where
       pub first_out : Step ν s (by_reader r (first_ask p)) (refused 17) s'
       first_out = (rw (le-ltb 15 r low, e, le-leb (length x.items) p out) refl, same)
 
-      pub second-out : Step ν s (by_reader r (second_ask p)) (refused 17) s'
-      second-out = (rw (le-ltb 15 r low, e, le-leb (length x.items) p out) refl, same)
+      pub second_out : Step ν s (by_reader r (second_ask p)) (refused 17) s'
+      second_out = (rw (le-ltb 15 r low, e, le-leb (length x.items) p out) refl, same)
 
       pub take_out : Step ν s (by_reader r (take p)) (refused 17) s'
       take_out = (rw (le-ltb 15 r low, e, le-leb (length x.items) p out) refl, same)

@@ -59,14 +59,14 @@ Orders ν h held last writers = record {
   own : (w : ℕ) (x : OpenOrder) → (writers w).current ≡ Some x → Own h w x.order x.prepared;
   stamped : (o : Order) → Ordered h o → Stamped (λ w. (writers w).sequence) o;
   unique : (o o' : Order) → Ordered h o → Ordered h o' → o.stamp ≡ o'.stamp → o ≡ o';
-  of-prepared : (o : Order) (k : ℕ) → Prepared h o k → Ordered h o;
-  of-withdrawn : (o : Order) → Withdrawn h o → Ordered h o;
-  held-from : (i t c m : ℕ) → held i t ≡ Some (c, m) → Source ν h i t c m;
+  of_prepared : (o : Order) (k : ℕ) → Prepared h o k → Ordered h o;
+  of_withdrawn : (o : Order) → Withdrawn h o → Ordered h o;
+  held_from : (i t c m : ℕ) → held i t ≡ Some (c, m) → Source ν h i t c m;
   held_of :
       (o : Order) (k : ℕ) → Prepared h o k → held (get_or o.items k 0) o.stamp ≡ Some (get_or o.codes k 0, mark_for ν o.items);
   last_from : (i : ℕ) → From h i (last i);
-  of-mark : (o : Order) → Ordered h o → mark_of ν h o.stamp ≡ mark_for ν o.items;
-  no-mark : mark_of ν h 0 ≡ 0;
+  of_mark : (o : Order) → Ordered h o → mark_of ν h o.stamp ≡ mark_for ν o.items;
+  no_mark : mark_of ν h 0 ≡ 0;
 }
 
 abbrev pub OrdersIn : Naming → History → State → Type 0
@@ -95,11 +95,11 @@ abbrev pub Fine : Naming → History → OpenRead → Type 0
 Fine ν h x = record {
   listed : Listed x.items;
   firsts : (p : ℕ) (v : Version) → x.first p ≡ Some v → (p < length x.items) × Shown ν h (get_or x.items p 0) v;
-  kept-first : (p : ℕ) (v : Version) → x.again p ≡ false → x.first p ≡ Some v → x.kept p ≡ v;
+  kept_first : (p : ℕ) (v : Version) → x.again p ≡ false → x.first p ≡ Some v → x.kept p ≡ v;
   made : (p : ℕ) → x.again p ≡ true → AllMade (progress x);
   reach : (p : ℕ) → x.again p ≡ true → (q : ℕ) (u : Version) → x.first q ≡ Some u → Reached h (get_or x.items p 0) (x.kept p) u;
   kept : (p : ℕ) (v : Version) → x.first p ≡ Some v → Shown ν h (get_or x.items p 0) (x.kept p);
-  not-before : (p : ℕ) (v : Version) → x.first p ≡ Some v → later v.0 (x.kept p).0 ≡ false;
+  not_before : (p : ℕ) (v : Version) → x.first p ≡ Some v → later v.0 (x.kept p).0 ≡ false;
   kept_from : (p : ℕ) (v : Version) → x.first p ≡ Some v → (q : ℕ) × (u : Version) × (x.first q ≡ Some u) × (u.0 ≡ (x.kept p).0);
 }
 

@@ -99,24 +99,24 @@ put_of v w i t c m fresh d = record {
 
 -- filing and preparing leave what is settled
 module _ (h : History) (w a b : ℕ) (o : Order) (d : Settled h o) where
-  pub filed-settled : (q : ℕ) (items codes : List ℕ) → Settled (called (by_writer w (file q items codes)) (accepted a b) ∷ h) o
-  filed-settled q items codes = record { is_order = inr d.is_order; prepared = d.prepared; stands = d.stands }
+  pub filed_settled : (q : ℕ) (items codes : List ℕ) → Settled (called (by_writer w (file q items codes)) (accepted a b) ∷ h) o
+  filed_settled q items codes = record { is_order = inr d.is_order; prepared = d.prepared; stands = d.stands }
 
-  pub prepared-settled : (j : ℕ) → Settled (called (by_writer w (prepare j)) (accepted a b) ∷ h) o
-  prepared-settled j = record { is_order = d.is_order; prepared = λ i l. inr (d.prepared i l); stands = d.stands }
+  pub prepared_settled : (j : ℕ) → Settled (called (by_writer w (prepare j)) (accepted a b) ∷ h) o
+  prepared_settled j = record { is_order = d.is_order; prepared = λ i l. inr (d.prepared i l); stands = d.stands }
 
 module _ (ν : Naming) (h : History) (held : Held) (last : ℕ → ℕ) (ws : ℕ → OrderRow) (k : Orders ν h held last ws) where
   -- a writer's open order is the one that the history has open
   under : (w : ℕ) (x : OpenOrder) → (ws w).current ≡ Some x → current_order h w ≡ Some x.order
   under w x e = k.runs w ∙ ap (option_map filing) e
 
-  same-order : (w : ℕ) (x : OpenOrder) (o : Order) → (ws w).current ≡ Some x → current_order h w ≡ Some o → o ≡ x.order
-  same-order w x o e u = inside (sym u ∙ under w x e)
+  same_order : (w : ℕ) (x : OpenOrder) (o : Order) → (ws w).current ≡ Some x → current_order h w ≡ Some o → o ≡ x.order
+  same_order w x o e u = inside (sym u ∙ under w x e)
 
   -- the stamped numbers hold as the sequences stay
-  still-stamped : (w : ℕ) (r : Option OpenOrder) (o : Order) → Ordered h o →
+  still_stamped : (w : ℕ) (r : Option OpenOrder) (o : Order) → Ordered h o →
       Stamped (λ v. (upd ws w (with_order (ws w) r) v).sequence) o
-  still-stamped w r o i =
+  still_stamped w r o i =
       let s = k.stamped o i in
       record {
         number = s.number;
@@ -133,38 +133,38 @@ module _ (ν : Naming) (h : History) (held : Held) (last : ℕ → ℕ) (ws : �
     runs = runs_after (current_order h) ws w (with_order (ws w) None) None k.runs refl;
     own = λ v x e. elim (at_writer ws w (with_order (ws w) None) v x e) [
       | inl m ↦ never m.1
-      | inr m ↦ k.own_val v x m.1
+      | inr m ↦ k.own v x m.1
     ];
-    stamped = still-stamped w None;
+    stamped = still_stamped w None;
     unique = k.unique;
-    of-prepared = k.of-prepared;
-    of-withdrawn = k.of-withdrawn;
-    held-from = k.held-from;
+    of_prepared = k.of_prepared;
+    of_withdrawn = k.of_withdrawn;
+    held_from = k.held_from;
     held_of = k.held_of;
     last_from = k.last_from;
-    of-mark = k.of-mark;
-    no-mark = k.no-mark;
+    of_mark = k.of_mark;
+    no_mark = k.no_mark;
   }
 
   module _ (w a b : ℕ) (was : OpenOrder) (e : (ws w).current ≡ Some was) where
     -- another writer's order is not this writer's
-    not-other : (v : ℕ) (x : OpenOrder) → ¬ (v ≡ w) → (ws v).current ≡ Some x → ¬ (current_order h w ≡ Some x.order)
-    not-other v x d f u =
-        let same = same-order w was x.order e u in
-        d (sym (k.own_val v x f).writer ∙ ap (λ (o : Order). o.writer) same ∙ (k.own_val w was e).writer)
+    not_other : (v : ℕ) (x : OpenOrder) → ¬ (v ≡ w) → (ws v).current ≡ Some x → ¬ (current_order h w ≡ Some x.order)
+    not_other v x d f u =
+        let same = same_order w was x.order e u in
+        d (sym (k.own v x f).writer ∙ ap (λ (o : Order). o.writer) same ∙ (k.own w was e).writer)
 
     -- ── withdraw ──
     module _ (j : ℕ) (within : j < length was.order.items) (gathering : was.prepared j ≡ false) where
-      pub withdrawn-settled : (o : Order) → Settled h o → Settled (called (by_writer w withdraw) (accepted a b) ∷ h) o
-      withdrawn-settled o s = record {
+      pub withdrawn_settled : (o : Order) → Settled h o → Settled (called (by_writer w withdraw) (accepted a b) ∷ h) o
+      withdrawn_settled o s = record {
         is_order = s.is_order;
         prepared = s.prepared;
         stands = elim [
           | inl u ↦
-              let same = same-order w was o e u in
+              let same = same_order w was o e u in
               let in-o : j < length o.items = subst (λ (z : Order). j < length z.items) (sym same) within in
               let ready : Prepared h was.order j = subst (λ (z : Order). Prepared h z j) same (s.prepared j in-o) in
-              true_false (sym gathering ∙ (k.own_val w was e).back j ready)
+              true_false (sym gathering ∙ (k.own w was e).back j ready)
           | inr u ↦ s.stands u
         ];
       }
@@ -175,39 +175,39 @@ module _ (ν : Naming) (h : History) (held : Held) (last : ℕ → ℕ) (ws : �
         own = λ v x f. elim (at_writer ws w (with_order (ws w) None) v x f) [
           | inl m ↦ never m.1
           | inr m ↦
-              let z = k.own_val v x m.1 in
+              let z = k.own v x m.1 in
               record {
                 is_order = z.is_order;
                 writer = z.writer;
                 marked = z.marked;
                 back = z.back;
-                stands = elim [ inl u ↦ not-other v x m.0 m.1 u | inr u ↦ z.stands u ];
+                stands = elim [ inl u ↦ not_other v x m.0 m.1 u | inr u ↦ z.stands u ];
               }
         ];
-        stamped = still-stamped w None;
+        stamped = still_stamped w None;
         unique = k.unique;
-        of-prepared = k.of-prepared;
-        of-withdrawn = λ o. elim [
-          | inl u ↦ subst (Ordered h) (sym (same-order w was o e u)) (k.own_val w was e).is_order
-          | inr u ↦ k.of-withdrawn o u
+        of_prepared = k.of_prepared;
+        of_withdrawn = λ o. elim [
+          | inl u ↦ subst (Ordered h) (sym (same_order w was o e u)) (k.own w was e).is_order
+          | inr u ↦ k.of_withdrawn o u
         ];
-        held-from = k.held-from;
+        held_from = k.held_from;
         held_of = k.held_of;
         last_from = λ i. elim (k.last_from i) [
           | inl z ↦ inl z
-          | inr z ↦ inr (z.0, withdrawn-settled z.0 z.1, z.2, z.3)
+          | inr z ↦ inr (z.0, withdrawn_settled z.0 z.1, z.2, z.3)
         ];
-        of-mark = k.of-mark;
-        no-mark = k.no-mark;
+        of_mark = k.of_mark;
+        no_mark = k.no_mark;
       }
 
     -- ── commit ──
     module _ (j : ℕ) (within : j < length was.order.items) (gathered : AllPrepared was) where
       all_settled : Settled h was.order
       all_settled = record {
-        is_order = (k.own_val w was e).is_order;
-        prepared = λ i l. (k.own_val w was e).marked i (gathered i l);
-        stands = (k.own_val w was e).stands;
+        is_order = (k.own w was e).is_order;
+        prepared = λ i l. (k.own w was e).marked i (gathered i l);
+        stands = (k.own w was e).stands;
       }
 
       pub committed :
@@ -222,14 +222,14 @@ module _ (ν : Naming) (h : History) (held : Held) (last : ℕ → ℕ) (ws : �
             runs = runs_kept (current_order h) ws w (with_order (ws w) (Some new)) k.runs (under w was e);
             own = λ v x f. elim (at_writer ws w (with_order (ws w) (Some new)) v x f) [
               | inl m ↦ subst (λ (y : OpenOrder). Own h v y.order y.prepared) (inside m.1)
-                  (subst (λ n. Own h n was.order was.prepared) (sym m.0) (k.own_val w was e))
-              | inr m ↦ k.own_val v x m.1
+                  (subst (λ n. Own h n was.order was.prepared) (sym m.0) (k.own w was e))
+              | inr m ↦ k.own v x m.1
             ];
-            stamped = still-stamped w (Some new);
+            stamped = still_stamped w (Some new);
             unique = k.unique;
-            of-prepared = k.of-prepared;
-            of-withdrawn = k.of-withdrawn;
-            held-from = k.held-from;
+            of_prepared = k.of_prepared;
+            of_withdrawn = k.of_withdrawn;
+            held_from = k.held_from;
             held_of = k.held_of;
             last_from = λ i. elim (cases_eq i i₀) [
               | inl f ↦ elim (cases_Bool (later t₀ (last i₀))) [
@@ -243,8 +243,8 @@ module _ (ν : Naming) (h : History) (held : Held) (last : ℕ → ℕ) (ws : �
               ]
               | inr d ↦ subst (From h i) (sym (upd_off last i₀ (later_of (last i₀) t₀) i d)) (k.last_from i)
             ];
-            of-mark = k.of-mark;
-            no-mark = k.no-mark;
+            of_mark = k.of_mark;
+            no_mark = k.no_mark;
           }
 
     -- ── prepare ──
@@ -257,7 +257,7 @@ module _ (ν : Naming) (h : History) (held : Held) (last : ℕ → ℕ) (ws : �
           (upd ws w (with_order (ws w) (Some (prepared_at was j))))
       prepared =
           let new = prepared_at was j in
-          let mine = k.own_val w was e in
+          let mine = k.own w was e in
           let h' = called (by_writer w (prepare j)) (accepted a b) ∷ h in
           let fresh : Own h' w was.order (upd was.prepared j true) = record {
             is_order = mine.is_order;
@@ -281,23 +281,23 @@ module _ (ν : Naming) (h : History) (held : Held) (last : ℕ → ℕ) (ws : �
               | inl m ↦ subst (λ (y : OpenOrder). Own h' v y.order y.prepared) (inside m.1)
                   (subst (λ n. Own h' n was.order (upd was.prepared j true)) (sym m.0) fresh)
               | inr m ↦
-                  let z = k.own_val v x m.1 in
+                  let z = k.own v x m.1 in
                   record {
                     is_order = z.is_order;
                     writer = z.writer;
                     marked = λ i g. inr (z.marked i g);
-                    back = λ i. elim [ inl n ↦ absurd (not-other v x m.0 m.1 n.0) | inr n ↦ z.back i n ];
+                    back = λ i. elim [ inl n ↦ absurd (not_other v x m.0 m.1 n.0) | inr n ↦ z.back i n ];
                     stands = z.stands;
                   }
             ];
-            stamped = still-stamped w (Some new);
+            stamped = still_stamped w (Some new);
             unique = k.unique;
-            of-prepared = λ o i. elim [
-              | inl m ↦ subst (Ordered h) (sym (same-order w was o e m.0)) mine.is_order
-              | inr m ↦ k.of-prepared o i m
+            of_prepared = λ o i. elim [
+              | inl m ↦ subst (Ordered h) (sym (same_order w was o e m.0)) mine.is_order
+              | inr m ↦ k.of_prepared o i m
             ];
-            of-withdrawn = k.of-withdrawn;
-            held-from = λ i t c m f. elim (put.from i t (c, m) f) [
+            of_withdrawn = k.of_withdrawn;
+            held_from = λ i t c m f. elim (put.from i t (c, m) f) [
               | inl n ↦ (
                 was.order,
                 mine.is_order,
@@ -305,12 +305,12 @@ module _ (ν : Naming) (h : History) (held : Held) (last : ℕ → ℕ) (ws : �
                 ap (λ (y : Content). y.1) n.2,
                 (j, within, sym n.0, sym (ap (λ (y : Content). y.0) n.2)),
               )
-              | inr n ↦ k.held-from i t c m n
+              | inr n ↦ k.held_from i t c m n
             ];
             held_of = λ o i. elim [
               | inl m ↦
                   subst (λ (y : Order). held' (get_or y.items i 0) y.stamp ≡ Some (get_or y.codes i 0, mark_for ν y.items))
-                  (sym (same-order w was o e m.0))
+                  (sym (same_order w was o e m.0))
                   (subst
                   (λ n. held' (get_or was.order.items n 0) was.order.stamp ≡ Some (get_or was.order.codes n 0, mark_for ν was.order.items))
                   (sym m.1) put.here)
@@ -318,10 +318,10 @@ module _ (ν : Naming) (h : History) (held : Held) (last : ℕ → ℕ) (ws : �
             ];
             last_from = λ i. elim (k.last_from i) [
               | inl z ↦ inl z
-              | inr z ↦ inr (z.0, prepared-settled h w a b z.0 z.1 j, z.2, z.3)
+              | inr z ↦ inr (z.0, prepared_settled h w a b z.0 z.1 j, z.2, z.3)
             ];
-            of-mark = k.of-mark;
-            no-mark = k.no-mark;
+            of_mark = k.of_mark;
+            no_mark = k.no_mark;
           }
 
   -- ── file ──
@@ -347,8 +347,8 @@ module _ (ν : Naming) (h : History) (held : Held) (last : ℕ → ℕ) (ws : �
           is_order = inl refl;
           writer = refl;
           marked = λ i f. true_false f;
-          back = λ i f. absurd (unused (filed w items codes a) (k.of-prepared (filed w items codes a) i f) refl);
-          stands = λ f. unused (filed w items codes a) (k.of-withdrawn (filed w items codes a) f) refl;
+          back = λ i f. absurd (unused (filed w items codes a) (k.of_prepared (filed w items codes a) i f) refl);
+          stands = λ f. unused (filed w items codes a) (k.of_withdrawn (filed w items codes a) f) refl;
         } in
         record {
           runs = runs_after (current_order h) ws w new (Some (filed w items codes a)) k.runs refl;
@@ -356,7 +356,7 @@ module _ (ν : Naming) (h : History) (held : Held) (last : ℕ → ℕ) (ws : �
             | inl m ↦ subst (λ (y : OpenOrder). Own h' v y.order y.prepared) (inside m.1)
                 (subst (λ n. Own h' n (filed w items codes a) (λ i. false)) (sym m.0) here)
             | inr m ↦
-                let z = k.own_val v x m.1 in
+                let z = k.own v x m.1 in
                 record { is_order = inr z.is_order; writer = z.writer; marked = z.marked; back = z.back; stands = z.stands }
           ];
           stamped = λ o. elim [
@@ -395,19 +395,19 @@ module _ (ν : Naming) (h : History) (held : Held) (last : ℕ → ℕ) (ws : �
               | inr g ↦ λ z. k.unique o o' f g z
             ]
           ];
-          of-prepared = λ o i f. inr (k.of-prepared o i f);
-          of-withdrawn = λ o f. inr (k.of-withdrawn o f);
-          held-from = λ i t c m f. let z = k.held-from i t c m f in (z.0, inr z.1, z.2, z.3, z.4);
+          of_prepared = λ o i f. inr (k.of_prepared o i f);
+          of_withdrawn = λ o f. inr (k.of_withdrawn o f);
+          held_from = λ i t c m f. let z = k.held_from i t c m f in (z.0, inr z.1, z.2, z.3, z.4);
           held_of = k.held_of;
           last_from = λ i. elim (k.last_from i) [
             | inl z ↦ inl z
-            | inr z ↦ inr (z.0, filed-settled h w a b z.0 z.1 q items codes, z.2, z.3)
+            | inr z ↦ inr (z.0, filed_settled h w a b z.0 z.1 q items codes, z.2, z.3)
           ];
-          of-mark = λ o. elim [
+          of_mark = λ o. elim [
             | inl f ↦
                 upd_at (mark_of ν h) a (mark_for ν items) o.stamp (ap (λ (y : Order). y.stamp) f)
                 ∙ ap (λ (y : Order). mark_for ν y.items) (sym f)
-            | inr i ↦ upd_off (mark_of ν h) a (mark_for ν items) o.stamp (unused o i) ∙ k.of-mark o i
+            | inr i ↦ upd_off (mark_of ν h) a (mark_for ν items) o.stamp (unused o i) ∙ k.of_mark o i
           ];
-          no-mark = upd_off (mark_of ν h) a (mark_for ν items) 0 (λ e. omega (arith, e, answer, positive)) ∙ k.no-mark;
+          no_mark = upd_off (mark_of ν h) a (mark_for ν items) 0 (λ e. omega (arith, e, answer, positive)) ∙ k.no_mark;
         }

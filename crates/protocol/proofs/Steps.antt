@@ -14,11 +14,11 @@ use Rattle.protocol.specs.Step.{Step, fresh_read, first_asked, second_asked, fir
 use Rattle.protocol.specs.History.{called, History, Read, opened, with_first, with_second, current_read}
 use Rattle.protocol.specs.Law.{Trace, start, next}
 use Rattle.protocol.proofs.Basics.{upd_from, at_upd, upd_ext, never, true_false, inside, agree_after, count_none}
-use Rattle.protocol.proofs.Facts.{files, prepares, commits, withdraws, opens, first-asks, second-asks, releases}
+use Rattle.protocol.proofs.Facts.{files, prepares, commits, withdraws, opens, first_asks, second_asks, releases}
 use Rattle.protocol.proofs.Wanting.{picks_eight}
 use Rattle.protocol.proofs.Inv.{Settled, filing, seen, Shown, Fine, Reads, Inv}
-use Rattle.protocol.proofs.Orders.{moved, put_of, closed, withdrawn, withdrawn-settled, committed, prepared, prepared-settled, filed-kept, filed-settled}
-use Rattle.protocol.proofs.Reading.{fine_up, fine_fresh, fine-first, fine-second, counts-first, counts-second, shown-held, some-stamp}
+use Rattle.protocol.proofs.Orders.{moved, put_of, closed, withdrawn, withdrawn_settled, committed, prepared, prepared_settled, filed-kept, filed_settled}
+use Rattle.protocol.proofs.Reading.{fine_up, fine_fresh, fine_first, fine_second, counts_first, counts_second, shown_held, some_stamp}
 
 -- ── readers ──
 
@@ -64,8 +64,8 @@ seen_second x p v more = λ i. record {
 
 module _ (ν : Naming) (law : Lawful ν) (h : History) (s : State) (k : Inv ν h s) where
   -- what the first ask answers is of a settled order
-  last-shown : (i : ℕ) → Shown ν h i (last_version s.store i)
-  last-shown i = elim (k.orders.last_from i) [
+  last_shown : (i : ℕ) → Shown ν h i (last_version s.store i)
+  last_shown i = elim (k.orders.last_from i) [
     | inl z ↦ inl (cond-true (eqb (s.store.last i) 0) blank _ (eq-eqb (s.store.last i) 0 z))
     | inr z ↦
         let held = s.store.held in
@@ -75,17 +75,17 @@ module _ (ν : Naming) (law : Lawful ν) (h : History) (s : State) (k : Inv ν h
         let x : ℕ × ℕ = (get_or o.codes l.0 0, mark_for ν o.items) in
         let there : held i o.stamp ≡ Some x =
         ap (λ n. held n o.stamp) (sym l.2) ∙ k.orders.held_of o l.0 (z.1.prepared l.0 l.1) in
-        let real : ¬ (last i ≡ 0) = λ e. some-stamp ν law h s k.orders o z.1.is_order (z.2 ∙ e) in
+        let real : ¬ (last i ≡ 0) = λ e. some_stamp ν law h s k.orders o z.1.is_order (z.2 ∙ e) in
         let v : Version = (o.stamp, x.0, x.1) in
         let is : last_version s.store i ≡ v =
         cond-false (eqb (last i) 0) blank (version_with (last i) (held i (last i))) (ne_eqb (last i) 0 real)
         ∙ ap (λ n. version_with n (held i n)) (sym z.2) ∙ ap (version_with o.stamp) there in
-        subst (Shown ν h i) (sym is) (shown-held ν law h s k.orders i v there o z.1 refl)
+        subst (Shown ν h i) (sym is) (shown_held ν law h s k.orders i v there o z.1 refl)
   ]
 
-  reader-step : (s' : State) (r a b : ℕ) (q : ReaderCall) (o : Option OpenRead) → s' ≡ set_reader s r o →
+  reader_step : (s' : State) (r a b : ℕ) (q : ReaderCall) (o : Option OpenRead) → s' ≡ set_reader s r o →
       Reads ν (called (by_reader r q) (accepted a b) ∷ h) (upd s.readers r o) → Inv ν (called (by_reader r q) (accepted a b) ∷ h) s'
-  reader-step s' r a b q o after reads =
+  reader_step s' r a b q o after reads =
       subst (Inv ν (called (by_reader r q) (accepted a b) ∷ h)) (sym after) (record { orders = k.orders; reads = reads })
 
   -- the read that the history has open
@@ -98,13 +98,13 @@ pub settled_step : (ν : Naming) (h : History) (s : State) (c : Call) (a : Answe
     (o : Order) → Settled h o → Settled (called c a ∷ h) o
 settled_step ν h s c (refused n) s' k z o d = d
 settled_step ν h s (by_reader r q) (accepted a b) s' k z o d = d
-settled_step ν h s (by_writer w (file q items codes)) (accepted a b) s' k z o d = filed-settled h w a b o d q items codes
-settled_step ν h s (by_writer w (prepare j)) (accepted a b) s' k z o d = prepared-settled h w a b o d j
+settled_step ν h s (by_writer w (file q items codes)) (accepted a b) s' k z o d = filed_settled h w a b o d q items codes
+settled_step ν h s (by_writer w (prepare j)) (accepted a b) s' k z o d = prepared_settled h w a b o d j
 settled_step ν h s (by_writer w (commit j)) (accepted a b) s' k z o d = d
 settled_step ν h s (by_writer w close) (accepted a b) s' k z o d = d
 settled_step ν h s (by_writer w withdraw) (accepted a b) s' k z o d =
     let f = withdraws ν s s' w a b z in
-    withdrawn-settled ν h s.store.held s.store.last s.writers k.orders w a b
+    withdrawn_settled ν h s.store.held s.store.last s.writers k.orders w a b
     (order_of s w) f.1.open_order f.0 f.1.within f.2 o d
 
 -- ── each step keeps the invariant ──
@@ -178,34 +178,34 @@ inv_step ν law h s (by_writer w withdraw) (accepted a b) s' k z =
     }
 inv_step ν law h s (by_reader r (open_read items)) (accepted a b) s' k z =
     let f = opens ν s s' r a b items z in
-    reader-step ν law h s k s' r a b (open_read items) (Some (fresh_read items)) z.1.2
+    reader_step ν law h s k s' r a b (open_read items) (Some (fresh_read items)) z.1.2
     (reads_after ν h s.readers r (Some (opened items)) (Some (fresh_read items)) k.reads (ap Some (seen_fresh items))
     (λ x e. subst (Fine ν h) (inside e) (fine_fresh ν h items f.1)) f.0)
 inv_step ν law h s (by_reader r (first_ask p)) (accepted a b) s' k z =
-    let f = first-asks ν s s' r a b p z in
+    let f = first_asks ν s s' r a b p z in
     let x = read_of s r in
     let v = first_version s.store x p in
     let fine = k.reads.fine r x f.0.is_open in
-    let shown = last-shown ν law h s k (read_item x p) in
-    reader-step ν law h s k s' r a b (first_ask p) (Some (first_asked x p v)) z.1.1
+    let shown = last_shown ν law h s k (read_item x p) in
+    reader_step ν law h s k s' r a b (first_ask p) (Some (first_asked x p v)) z.1.1
     (reads_after ν h s.readers r (option_map (with_first p a) (current_read h r)) (Some (first_asked x p v)) k.reads
     (ap (option_map (with_first p a)) (open_in ν law h s k r x f.0.is_open)
-    ∙ ap Some (seen_first x p a v z.1.0 (counts-first ν h x fine p f.1 v shown)))
-    (λ y e. subst (Fine ν h) (inside e) (fine-first ν h x fine p f.1 v shown)) f.0.low)
+    ∙ ap Some (seen_first x p a v z.1.0 (counts_first ν h x fine p f.1 v shown)))
+    (λ y e. subst (Fine ν h) (inside e) (fine_first ν h x fine p f.1 v shown)) f.0.low)
 inv_step ν law h s (by_reader r (second_ask p)) (accepted a b) s' k z =
-    let f = second-asks ν s s' r a b p z in
+    let f = second_asks ν s s' r a b p z in
     let x = read_of s r in
     let v = second_version ν s.store x p in
     let fine = k.reads.fine r x f.0.is_open in
     let picks = picks_eight (s.store.held (read_item x p)) (wanted ν (progress x) p) in
-    reader-step ν law h s k s' r a b (second_ask p) (Some (second_asked x p v)) z.1.1
+    reader_step ν law h s k s' r a b (second_ask p) (Some (second_asked x p v)) z.1.1
     (reads_after ν h s.readers r (option_map (with_second p) (current_read h r)) (Some (second_asked x p v)) k.reads
     (ap (option_map (with_second p)) (open_in ν law h s k r x f.0.is_open)
-    ∙ ap Some (seen_second x p v (counts-second ν law h s k.orders x fine p f.1 v picks)))
-    (λ y e. subst (Fine ν h) (inside e) (fine-second ν law h s k.orders x fine p f.1 v picks)) f.0.low)
+    ∙ ap Some (seen_second x p v (counts_second ν law h s k.orders x fine p f.1 v picks)))
+    (λ y e. subst (Fine ν h) (inside e) (fine_second ν law h s k.orders x fine p f.1 v picks)) f.0.low)
 inv_step ν law h s (by_reader r (take p)) (accepted a b) s' k z = subst (Inv ν h) (sym z.1.1) k
 inv_step ν law h s (by_reader r release) (accepted a b) s' k z =
-    reader-step ν law h s k s' r a b release None z.1.1
+    reader_step ν law h s k s' r a b release None z.1.1
     (reads_after ν h s.readers r None None k.reads refl (λ x e. never e) (releases ν s s' r a b z).low)
 
 -- ── whole runs ──
@@ -224,13 +224,13 @@ inv_start ν s law u = record {
     own = λ w x e. never (sym (u.no_order w) ∙ e);
     stamped = λ o i. absurd i;
     unique = λ o o' i. absurd i;
-    of-prepared = λ o k i. absurd i;
-    of-withdrawn = λ o i. absurd i;
-    held-from = λ i t c m e. never (sym (u.nothing_held i t) ∙ e);
+    of_prepared = λ o k i. absurd i;
+    of_withdrawn = λ o i. absurd i;
+    held_from = λ i t c m e. never (sym (u.nothing_held i t) ∙ e);
     held_of = λ o k i. absurd i;
     last_from = λ i. inl (no_last s law u i);
-    of-mark = λ o i. absurd i;
-    no-mark = refl;
+    of_mark = λ o i. absurd i;
+    no_mark = refl;
   };
   reads = record {
     agree = λ r. ap (option_map seen) (sym (u.no_read r));
@@ -241,10 +241,10 @@ inv_start ν s law u = record {
 
 -- the calls of h after those of past
 module _ (ν : Naming) (law : Lawful ν) (past : History) (s₀ : State) (k : Inv ν past s₀) where
-  pub inv-run : {h : History} {s : State} → Trace ν s₀ h s → Inv ν (h ++ past) s
-  inv-run start = k
-  inv-run (next {h} {s} {s'} {c} {a} run z) = inv_step ν law (h ++ past) s c a s' (inv-run run) z
+  pub inv_run : {h : History} {s : State} → Trace ν s₀ h s → Inv ν (h ++ past) s
+  inv_run start = k
+  inv_run (next {h} {s} {s'} {c} {a} run z) = inv_step ν law (h ++ past) s c a s' (inv_run run) z
 
-  pub settled-run : {h : History} {s : State} → Trace ν s₀ h s → (o : Order) → Settled past o → Settled (h ++ past) o
-  settled-run start o d = d
-  settled-run (next {h} {s} {s'} {c} {a} run z) o d = settled_step ν (h ++ past) s c a s' (inv-run run) z o (settled-run run o d)
+  pub settled_run : {h : History} {s : State} → Trace ν s₀ h s → (o : Order) → Settled past o → Settled (h ++ past) o
+  settled_run start o d = d
+  settled_run (next {h} {s} {s'} {c} {a} run z) o d = settled_step ν (h ++ past) s c a s' (inv_run run) z o (settled_run run o d)

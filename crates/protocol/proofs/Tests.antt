@@ -110,45 +110,45 @@ module _ (ν : Naming) (v : Progress) where
   want : ℕ → ℕ → Bool
   want p q = not (eqb (wanted ν v p q) 0)
 
-  pub asks-to : (p : ℕ) → asks_again ν v p ≡ true → AsksAgain ν v p
+  pub asks_to : (p : ℕ) → asks_again ν v p ≡ true → AsksAgain ν v p
   unfolding want
-  asks-to p e = elim (or_cases ν.twice (any_below (length v.items) (want p)) e) [
+  asks_to p e = elim (or_cases ν.twice (any_below (length v.items) (want p)) e) [
     | inl t ↦ inl t
     | inr t ↦ let z = any_true (length v.items) (want p) t in
         inr (z.0, z.1, eqb-false (wanted ν v p z.0) 0 (not-true (eqb (wanted ν v p z.0) 0) z.2))
   ]
 
-  pub asks-from : (p : ℕ) → AsksAgain ν v p → asks_again ν v p ≡ true
+  pub asks_from : (p : ℕ) → AsksAgain ν v p → asks_again ν v p ≡ true
   unfolding want
-  asks-from p = elim [
+  asks_from p = elim [
     | inl t ↦ or_left ν.twice (any_below (length v.items) (want p)) t
     | inr z ↦ or_right ν.twice (any_below (length v.items) (want p))
         (true_any (length v.items) (want p) z.0 z.1
         (not_from_false (eqb (wanted ν v p z.0) 0) (ne_eqb (wanted ν v p z.0) 0 z.2)))
   ]
 
-  quiet-to : (p : ℕ) → not (due_second ν v p) ≡ true → AsksAgain ν v p → v.again p ≡ true
-  quiet-to p e a = elim (and_cases (asks_again ν v p) (not (v.again p)) (not-true (due_second ν v p) e)) [
-    | inl f ↦ true_false (sym f ∙ asks-from p a)
+  quiet_to : (p : ℕ) → not (due_second ν v p) ≡ true → AsksAgain ν v p → v.again p ≡ true
+  quiet_to p e a = elim (and_cases (asks_again ν v p) (not (v.again p)) (not-true (due_second ν v p) e)) [
+    | inl f ↦ true_false (sym f ∙ asks_from p a)
     | inr f ↦ not-false (v.again p) f
   ]
 
-  quiet-from : (p : ℕ) → (AsksAgain ν v p → v.again p ≡ true) → not (due_second ν v p) ≡ true
-  quiet-from p f = elim (cases_Bool (due_second ν v p)) [
+  quiet_from : (p : ℕ) → (AsksAgain ν v p → v.again p ≡ true) → not (due_second ν v p) ≡ true
+  quiet_from p f = elim (cases_Bool (due_second ν v p)) [
     | inl t ↦ let z = and_parts (asks_again ν v p) (not (v.again p)) t in
-        true_false (sym (not-true (v.again p) z.1) ∙ f (asks-to p z.0))
+        true_false (sym (not-true (v.again p) z.1) ∙ f (asks_to p z.0))
     | inr t ↦ not_from_false (due_second ν v p) t
   ]
 
-  pub finished-to : finished ν v ≡ true → Finished ν v
-  finished-to e =
+  pub finished_to : finished ν v ≡ true → Finished ν v
+  finished_to e =
       let z = and_parts (all_made v) (all_below (length v.items) (λ p. not (due_second ν v p))) e in
       record {
         firsts = all_true (length v.items) v.made z.0;
-        seconds = λ p l. quiet-to p (all_true (length v.items) (λ p. not (due_second ν v p)) z.1 p l);
+        seconds = λ p l. quiet_to p (all_true (length v.items) (λ p. not (due_second ν v p)) z.1 p l);
       }
 
   pub finished_from : Finished ν v → finished ν v ≡ true
   finished_from f = and_from (all_made v) (all_below (length v.items) (λ p. not (due_second ν v p)))
       (true_all (length v.items) v.made f.firsts)
-      (true_all (length v.items) (λ p. not (due_second ν v p)) (λ p l. quiet-from p (f.seconds p l)))
+      (true_all (length v.items) (λ p. not (due_second ν v p)) (λ p l. quiet_from p (f.seconds p l)))

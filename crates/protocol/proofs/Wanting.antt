@@ -57,17 +57,17 @@ module _ (ν : Naming) (x : Progress) (p q : ℕ) where
   named = later (x.stamp q) (x.stamp p) && ν.names (x.mark q) (get_or x.items p 0)
 
   -- a wanted stamp that is not 0 is the first stamp of the place that it is wanted from
-  pub wanted-from : ¬ (wanted ν x p q ≡ 0) → (q < length x.items) × (x.stamp q ≡ wanted ν x p q)
+  pub wanted_from : ¬ (wanted ν x p q ≡ 0) → (q < length x.items) × (x.stamp q ≡ wanted ν x p q)
   unfolding named
-  wanted-from n =
+  wanted_from n =
       let z = from_ways (ltb q (length x.items)) (eqb p q) ν.twice named (x.stamp p) (x.stamp q)
       (λ e. ap x.stamp (eqb-true p q e)) n in
       (ltb-true q (length x.items) z.0, z.1)
 
-  pub wanted-is : q < length x.items → ¬ (p ≡ q) → later (x.stamp q) (x.stamp p) ≡ true →
+  pub wanted_is : q < length x.items → ¬ (p ≡ q) → later (x.stamp q) (x.stamp p) ≡ true →
       ν.names (x.mark q) (get_or x.items p 0) ≡ true → wanted ν x p q ≡ x.stamp q
   unfolding named
-  wanted-is l d f g =
+  wanted_is l d f g =
       is_way (ltb q (length x.items)) (eqb p q) ν.twice named (x.stamp p) (x.stamp q)
       (lt-ltb q (length x.items) l) (ne_eqb p q d)
       (and_from (later (x.stamp q) (x.stamp p)) (ν.names (x.mark q) (get_or x.items p 0)) f g)

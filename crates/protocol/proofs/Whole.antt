@@ -18,11 +18,11 @@ use Rattle.protocol.specs.History.{History, Ordered, Lists, mark_of, Read, curre
 use Rattle.protocol.specs.Law.{Trace, start, next, Next, Accepted, Accepts, Due, AsLate, Whole, ReadsStayWhole}
 use Rattle.protocol.proofs.Basics.{never, true_false, inside, some_of, count_most}
 use Rattle.protocol.proofs.Facts as facts
-use Rattle.protocol.proofs.Intro.{first_in, second_in, take_in, release-in}
-use Rattle.protocol.proofs.Tests.{true_all, asks-from, finished_from}
+use Rattle.protocol.proofs.Intro.{first_in, second_in, take_in, release_in}
+use Rattle.protocol.proofs.Tests.{true_all, asks_from, finished_from}
 use Rattle.protocol.proofs.Inv.{Settled, seen, Fine, Inv}
-use Rattle.protocol.proofs.Reading.{some-stamp, same-stamp, wants-stamp}
-use Rattle.protocol.proofs.Steps.{inv_start, inv-run, settled-run}
+use Rattle.protocol.proofs.Reading.{some_stamp, same_stamp, wants_stamp}
+use Rattle.protocol.proofs.Steps.{inv_start, inv_run, settled_run}
 
 -- ── what is accepted ──
 
@@ -90,8 +90,8 @@ module _ (ν : Naming) (x : Progress) where
   ]
 
   -- a read is finished, or an ask is due
-  finished-or-due : Finished ν x ⊎ (((p : ℕ) × DueFirst x p) ⊎ ((p : ℕ) × DueSecond ν x p))
-  finished-or-due = elim (all_or_one (λ p. x.made p ≡ true) (λ p. x.made p ≡ false) (λ p. cases_Bool (x.made p)) (length x.items)) [
+  finished_or_due : Finished ν x ⊎ (((p : ℕ) × DueFirst x p) ⊎ ((p : ℕ) × DueSecond ν x p))
+  finished_or_due = elim (all_or_one (λ p. x.made p ≡ true) (λ p. x.made p ≡ false) (λ p. cases_Bool (x.made p)) (length x.items)) [
     | inl all ↦ elim (all_or_one Done Left second? (length x.items)) [
       | inl done ↦ inl (record { firsts = all; seconds = done })
       | inr z ↦ inr (inr (z.0, record { within = z.1; firsts = all; asks = z.2.0; not_made = z.2.1 }))
@@ -110,25 +110,25 @@ module _ (ν : Naming) (law : Lawful ν) (past all : History) (s : State) (k : I
   behind : (r : ℕ) (x : Read) → current_read past r ≡ Some x → (y : OpenRead) × (s.readers r ≡ Some y) × (x ≡ seen y)
   behind r x e = from_mapped seen x (s.readers r) (sym e ∙ k.reads.agree r)
 
-  mark-same : (y : OpenRead) → Fine ν past y →
+  mark_same : (y : OpenRead) → Fine ν past y →
       (p : ℕ) → mark_of ν past (or_zero (option_map (λ (v : Version). v.0) (y.first p))) ≡ mark_in (y.first p)
-  mark-same y f p = go (y.first p) refl
+  mark_same y f p = go (y.first p) refl
     where
       go : (o : Option Version) → y.first p ≡ o → mark_of ν past (or_zero (option_map (λ (v : Version). v.0) o)) ≡ mark_in o
-      go None e = k.orders.no-mark
+      go None e = k.orders.no_mark
       go (Some v) e = elim (f.firsts p v e).1 [
-        | inl z ↦ ap (λ (u : Version). mark_of ν past u.0) z ∙ k.orders.no-mark ∙ ap (λ (u : Version). u.2) (sym z)
-        | inr z ↦ ap (mark_of ν past) (sym z.2) ∙ k.orders.of-mark z.0 z.1.is_order ∙ sym z.3
+        | inl z ↦ ap (λ (u : Version). mark_of ν past u.0) z ∙ k.orders.no_mark ∙ ap (λ (u : Version). u.2) (sym z)
+        | inr z ↦ ap (mark_of ν past) (sym z.2) ∙ k.orders.of_mark z.0 z.1.is_order ∙ sym z.3
       ]
 
-  same-progress : (r : ℕ) (x : Read) (y : OpenRead) → s.readers r ≡ Some y → x ≡ seen y → progress_in ν past x ≡ progress y
-  same-progress r x y e g =
+  same_progress : (r : ℕ) (x : Read) (y : OpenRead) → s.readers r ≡ Some y → x ≡ seen y → progress_in ν past x ≡ progress y
+  same_progress r x y e g =
       let f = k.reads.fine r y e in
       ap (progress_in ν past) g ∙ (λ i. record {
         items = y.items;
         made = fun_ext (λ p. made_same (y.first p)) i;
         stamp = fun_ext (λ p. stamp_same (y.first p)) i;
-        mark = fun_ext (λ p. mark-same y f p) i;
+        mark = fun_ext (λ p. mark_same y f p) i;
         again = y.again;
       })
 
@@ -148,10 +148,10 @@ module _ (ν : Naming) (law : Lawful ν) (past all : History) (s : State) (k : I
       (λ a b s' z. let t = taken r p a b s' y e z in subst (λ n. P n b) (sym t.0) (subst (P (y.kept p).0) (sym t.1) good))
 
   -- where the place p shows an order's stamp, the order's stamp is not later than what the place q shows
-  not-later : (y : OpenRead) → Fine ν past y → Finished ν (progress y) → (o : Order) → Ordered all o →
+  not_later : (y : OpenRead) → Fine ν past y → Finished ν (progress y) → (o : Order) → Ordered all o →
       (p q : ℕ) → p < length y.items → q < length y.items → Lists o (get_or y.items q 0) → o.stamp ≡ (y.kept p).0 →
       later o.stamp (y.kept q).0 ≡ false
-  not-later y f done o i p q lp lq lists stamp =
+  not_later y f done o i p q lp lq lists stamp =
       let v = some_of (y.first p) (done.firsts p lp) in
       let w = some_of (y.first q) (done.firsts q lq) in
       let z = f.kept_from p v.0 v.1 in
@@ -166,16 +166,16 @@ module _ (ν : Naming) (law : Lawful ν) (past all : History) (s : State) (k : I
             elim (cases_Bool (later u.0 w.0.0)) [
               | inl t ↦
                   let wants : wanted ν (progress y) q p' ≡ u.0 =
-                  wants-stamp ν law past s k.orders y f q p' w.0 u w.1 z.2 o here
+                  wants_stamp ν law past s k.orders y f q p' w.0 u w.1 z.2 o here
                   (b.3 ∙ ap (λ (x : Order). mark_for ν x.items) same) lists t in
                   let asked : y.again q ≡ true =
                   done.seconds q lq (inr (p', (f.firsts p' u z.2).0, λ e. real o i (at ∙ sym wants ∙ e))) in
                   elim (f.reach q asked p' u z.2) [
                     | inl c ↦ absurd (real o i (at ∙ ap (λ (x : Version). x.0) c))
                     | inr c ↦ c.3 (subst (λ (x : Order). Lists x (get_or y.items q 0))
-                        (same-stamp ν law past s k.orders o c.0 here c.1.is_order u.0 at c.2) lists)
+                        (same_stamp ν law past s k.orders o c.0 here c.1.is_order u.0 at c.2) lists)
                   ]
-              | inr t ↦ not_later_on (y.kept q).0 w.0.0 u.0 (f.not-before q w.0 w.1) t
+              | inr t ↦ not_later_on (y.kept q).0 w.0.0 u.0 (f.not_before q w.0 w.1) t
             ]
       ] in
       ap (λ n. later n (y.kept q).0) at ∙ late
@@ -189,7 +189,7 @@ module _ (ν : Naming) (law : Lawful ν) (past all : History) (s : State) (k : I
       let y = z.0 in
       let f = k.reads.fine r y z.1 in
       let low = k.reads.bound r y z.1 in
-      let same = same-progress r x y z.1 z.2 in
+      let same = same_progress r x y z.1 z.2 in
       elim [
         | inl d ↦
             let p = d.0 in
@@ -209,7 +209,7 @@ module _ (ν : Naming) (law : Lawful ν) (past all : History) (s : State) (k : I
             (accepts ν s (by_reader r (second_ask p)) (λ a b. Unit {0}) (later_version (y.kept p) v).0 0 s'
             (second_in ν s s' r low y z.1 p due.within (later_version (y.kept p) v).0
             (true_all (length y.items) (λ q. is_some (y.first q)) due.firsts)
-            (and_from _ _ (asks-from ν (progress y) p due.asks) (not_from_false (y.again p) due.not_made))
+            (and_from _ _ (asks_from ν (progress y) p due.asks) (not_from_false (y.again p) due.not_made))
             (passes y f p due.within) v refl refl refl)
             (λ a b s' t. tt))
       ]
@@ -220,14 +220,14 @@ module _ (ν : Naming) (law : Lawful ν) (past all : History) (s : State) (k : I
         let z = behind r x e in
         let y = z.0 in
         let f = k.reads.fine r y z.1 in
-        let done' : Finished ν (progress y) = subst (Finished ν) (same-progress r x y z.1 z.2) done in
+        let done' : Finished ν (progress y) = subst (Finished ν) (same_progress r x y z.1 z.2) done in
         let items : x.items ≡ y.items = ap (λ (u : Read). u.items) z.2 in
         let lp' : p < length y.items = subst (λ (l : List ℕ). p < length l) items lp in
         let lq' : q < length y.items = subst (λ (l : List ℕ). q < length l) items lq in
         let jq' : Lists o (get_or y.items q 0) = subst (λ (l : List ℕ). Lists o (get_or l q 0)) items jq in
         let t = taken r p o.stamp c n.0 y z.1 n.1 in
         takes (λ t d. AsLate t o.stamp) r q y z.1 lq' done'
-        (as_late_from (y.kept q).0 o.stamp (not-later y f done' o i p q lp' lq' jq' t.0));
+        (as_late_from (y.kept q).0 o.stamp (not_later y f done' o i p q lp' lq' jq' t.0));
     genuine = λ r p t c n.
         let z = n.1 in
         let y = read_of s r in
@@ -257,8 +257,8 @@ module _ (ν : Naming) (law : Lawful ν) (past all : History) (s : State) (k : I
         let y = z.0 in
         let items : x.items ≡ y.items = ap (λ (u : Read). u.items) z.2 in
         takes (λ t c. Unit {0}) r p y z.1 (subst (λ (l : List ℕ). p < length l) items l)
-        (subst (Finished ν) (same-progress r x y z.1 z.2) done) tt;
-    onward = λ r x e n. elim (finished-or-due ν (progress_in ν past x)) [
+        (subst (Finished ν) (same_progress r x y z.1 z.2) done) tt;
+    onward = λ r x e n. elim (finished_or_due ν (progress_in ν past x)) [
       | inl d ↦ absurd (n d)
       | inr d ↦ elim d [
         | inl a ↦ (by_reader r (first_ask a.0), inl (a.0, a.1, refl))
@@ -272,7 +272,7 @@ module _ (ν : Naming) (law : Lawful ν) (past all : History) (s : State) (k : I
         let asks : x.asks ≡ asks_made (progress y) = ap (λ (u : Read). u.asks) z.2 in
         let s' = set_reader s r None in
         accepts ν s (by_reader r release) (λ a b. a ≡ x.asks) (asks_made (progress y)) 0 s'
-        (release-in ν s s' r (k.reads.bound r y z.1) y z.1 (asks_made (progress y)) refl refl)
+        (release_in ν s s' r (k.reads.bound r y z.1) y z.1 (asks_made (progress y)) refl refl)
         (λ a b s' t. t.1.0 ∙ ap (λ (o : Option OpenRead). asks_made (progress (the_read o))) z.1 ∙ sym asks);
     few = λ r x e.
         let z = behind r x e in
@@ -298,8 +298,8 @@ pub reads_stay_whole : ReadsStayWhole
 reads_stay_whole ν law s₀ sₙ h held u run rest past e = record {
   reached = cut ν s₀ sₙ rest past (subst (λ (g : History). Trace ν s₀ g sₙ) (sym e) run);
   whole = λ s before after.
-      let first : Inv ν past s = subst (λ (g : History). Inv ν g s) (append-nil past) (inv-run ν law [] s₀ (inv_start ν s₀ held u) before) in
-      let last = inv-run ν law past s first after in
-      whole ν law past (rest ++ past) s first (settled-run ν law past s first after) last.orders.unique
-      (some-stamp ν law (rest ++ past) sₙ last.orders);
+      let first : Inv ν past s = subst (λ (g : History). Inv ν g s) (append-nil past) (inv_run ν law [] s₀ (inv_start ν s₀ held u) before) in
+      let last = inv_run ν law past s first after in
+      whole ν law past (rest ++ past) s first (settled_run ν law past s first after) last.orders.unique
+      (some_stamp ν law (rest ++ past) sₙ last.orders);
 }

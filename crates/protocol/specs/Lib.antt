@@ -2,6 +2,7 @@ pub mod Naming
 pub mod Calls
 pub mod State
 pub mod Asks
+pub mod Permit
 pub mod Refusals
 pub mod Step
 pub mod History

@@ -13,7 +13,7 @@ use Rattle.rows.specs.declared.order.OrderRow.{OrderRow}
 use Rattle.rows.specs.declared.read.OpenRead.{OpenRead}
 use Rattle.rows.specs.Places.{filled}
 use Rattle.rows.specs.Rows.{listed, flag, order_in, row_of, version_at, first_at, read_in}
-use Rattle.rows.proofs.Laid.{take-filled}
+use Rattle.rows.proofs.Laid.{take_filled}
 
 pub same_all : {A : Type 0} (n k : ℕ) (d : A) → get_or (replicate n d) k d ≡ d
 same_all zero k d = refl
@@ -37,7 +37,7 @@ order_filed w q x places items codes t e f few same =
     let all : listed x ≡ items = e ∙ take_all 8 items few in
     let given : take (length (listed x)) places ≡ codes =
     ap (λ (n : ℕ). take n places) (ap length all ∙ sym same) ∙ ap (take (length codes)) f ∙
-    take-filled 0 8 (length codes) codes (omega arith) (omega arith) ∙ take_all (length codes) codes (omega arith)
+    take_filled 0 8 (length codes) codes (omega arith) (omega arith) ∙ take_all (length codes) codes (omega arith)
     in
     λ i. record {
       sequence = q;
@@ -52,10 +52,10 @@ order_filed w q x places items codes t e f few same =
 
 module _ (x : OpenRead) (p : ℕ) (v : Version) where
   -- the first ask of a place is answered
-  pub first-set : p < length x.made → p < length x.firsts → p < length x.kept →
+  pub first_set : p < length x.made → p < length x.firsts → p < length x.kept →
       read_in (record { items = x.items; made = set x.made p true; firsts = set x.firsts p v; again = x.again; kept = set x.kept p v }) ≡
       first_asked (read_in x) p v
-  first-set a b c =
+  first_set a b c =
       let after : ℕ → Option Version = λ k. cond (flag (set x.made p true) k) (Some (version_at (set x.firsts p v) k)) None in
       let firsts : after ≡ protocol.upd (first_at x) p (Some v) =
       upd_from (first_at x) after p (Some v)
@@ -70,10 +70,10 @@ module _ (x : OpenRead) (p : ℕ) (v : Version) where
       }
 
   -- the second ask of a place is answered, and u is kept there
-  pub second-set : (u : Version) → p < length x.again → p < length x.kept → u ≡ later_version (version_at x.kept p) v →
+  pub second_set : (u : Version) → p < length x.again → p < length x.kept → u ≡ later_version (version_at x.kept p) v →
       read_in (record { items = x.items; made = x.made; firsts = x.firsts; again = set x.again p true; kept = set x.kept p u }) ≡
       second_asked (read_in x) p v
-  second-set u a c e =
+  second_set u a c e =
       let keeps : (λ k. version_at (set x.kept p u) k) ≡ protocol.upd (version_at x.kept) p (later_version (version_at x.kept p) v) =
       upd_set (λ (z : Version). z) x.kept p u blank c ∙ ap (λ (z : Version). protocol.upd (version_at x.kept) p z) e
       in

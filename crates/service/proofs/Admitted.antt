@@ -54,16 +54,16 @@ pub record Read_in (o : Option OpenRead) (p : ℕ) : Type 0 where
   pub within : p < length (the_read o).items
 
 module _ (ν : Naming) (o : Option OpenRead) (p : ℕ) where
-  pub may-second : first_of (read_tests ν o (Second p)) ≡ None → Read_in o p
-  may-second e =
+  pub may_second : first_of (read_tests ν o (Second p)) ≡ None → Read_in o p
+  may_second e =
       let z = clear (read_tests ν o (Second p)) e in
       record { there = read_there o z.0; within = leb-false (length (the_read o).items) p z.1.0 }
 
-  pub second-made : first_of (read_tests ν o (Second p)) ≡ None → all_made (progress (the_read o)) ≡ true
-  second-made e = not-false (all_made (progress (the_read o))) (clear (read_tests ν o (Second p)) e).1.1.0
+  pub second_made : first_of (read_tests ν o (Second p)) ≡ None → all_made (progress (the_read o)) ≡ true
+  second_made e = not-false (all_made (progress (the_read o))) (clear (read_tests ν o (Second p)) e).1.1.0
 
-  pub second-due : first_of (read_tests ν o (Second p)) ≡ None → due_second ν (progress (the_read o)) p ≡ true
-  second-due e = not-false (due_second ν (progress (the_read o)) p) (clear (read_tests ν o (Second p)) e).1.1.1.0
+  pub second_due : first_of (read_tests ν o (Second p)) ≡ None → due_second ν (progress (the_read o)) p ≡ true
+  second_due e = not-false (due_second ν (progress (the_read o)) p) (clear (read_tests ν o (Second p)) e).1.1.1.0
 
 -- the row's refusal comes before the store's tests
 abbrev followed : Tests → Tests → Tests
@@ -84,14 +84,14 @@ second_early ν s r p n low e =
 -- ── what the store answered ──
 
 module _ {X : Type 0} (i : ℕ) (r : Result X StoreFault) where
-  pub was-ok : (x : X) → Ok x ≡ at_item i r → r ≡ Ok x
-  was-ok x e = elim r as (λ z. Ok x ≡ at_item i z → z ≡ Ok x) [
+  pub was_ok : (x : X) → Ok x ≡ at_item i r → r ≡ Ok x
+  was_ok x e = elim r as (λ z. Ok x ≡ at_item i z → z ≡ Ok x) [
     | Ok y ↦ λ h. cc
     | Err f ↦ λ h. let z : ◌≡◌ {A = ℕ} 0 1 = cc in absurd (omega arith)
   ] e
 
-  pub was-item : (a : AtItem) → Err a ≡ at_item i r → a.item ≡ i
-  was-item a e = elim r as (λ z. Err a ≡ at_item i z → a.item ≡ i) [
+  pub was_item : (a : AtItem) → Err a ≡ at_item i r → a.item ≡ i
+  was_item a e = elim r as (λ z. Err a ≡ at_item i z → a.item ≡ i) [
     | Ok y ↦ λ h. let z : ◌≡◌ {A = ℕ} 0 1 = cc in absurd (omega arith)
     | Err f ↦ λ h. ap (λ (q : Result X AtItem). item_in q) h
   ] e
@@ -100,27 +100,27 @@ module _ {X : Type 0} (i : ℕ) (r : Result X StoreFault) where
       item_in (Ok y) = i
       item_in (Err b) = b.item
 
-  pub was-err : (a : AtItem) → Err a ≡ at_item i r → r ≡ Err a.fault
-  was-err a e = elim r as (λ z. Err a ≡ at_item i z → z ≡ Err a.fault) [
+  pub was_err : (a : AtItem) → Err a ≡ at_item i r → r ≡ Err a.fault
+  was_err a e = elim r as (λ z. Err a ≡ at_item i z → z ≡ Err a.fault) [
     | Ok y ↦ λ h. let z : ◌≡◌ {A = ℕ} 0 1 = cc in absurd (omega arith)
-    | Err f ↦ λ h. ap (λ (q : Result X AtItem). fault-in f q) (sym h)
+    | Err f ↦ λ h. ap (λ (q : Result X AtItem). fault_in f q) (sym h)
   ] e
     where
-      fault-in : StoreFault → Result X AtItem → Result X StoreFault
-      fault-in f (Ok y) = Err f
-      fault-in f (Err b) = Err b.fault
+      fault_in : StoreFault → Result X AtItem → Result X StoreFault
+      fault_in f (Ok y) = Err f
+      fault_in f (Err b) = Err b.fault
 
 -- the store's outcomes at the place that the row gave
 module _ (v w : View) (marks : List ℕ → ℕ) (o : Option OpenOrder) (k : ℕ) (at : Placed) (same : at ≡ placed_at o k) where
-  pub put-there : (m : ℕ) (r : Result Bool StoreFault) → m ≡ marks at.items → PutOutcome v w at.item at.stamp at.code m r →
+  pub put_there : (m : ℕ) (r : Result Bool StoreFault) → m ≡ marks at.items → PutOutcome v w at.item at.stamp at.code m r →
       PutOutcome v w (item_at (the_order o) k) (the_order o).order.stamp (code_at (the_order o) k) (marks (padded 8 (the_order o).order.items)) r
-  put-there m r e h =
+  put_there m r e h =
       subst (λ (q : Placed). PutOutcome v w q.item q.stamp q.code (marks q.items) r) same
       (subst (λ (n : ℕ). PutOutcome v w at.item at.stamp at.code n r) e h)
 
-  pub commit-there : (r : Result Bool StoreFault) → CommitOutcome v w at.item at.stamp r →
+  pub commit_there : (r : Result Bool StoreFault) → CommitOutcome v w at.item at.stamp r →
       CommitOutcome v w (item_at (the_order o) k) (the_order o).order.stamp r
-  commit-there r h = subst (λ (q : Placed). CommitOutcome v w q.item q.stamp r) same h
+  commit_there r h = subst (λ (q : Placed). CommitOutcome v w q.item q.stamp r) same h
 
 -- a refusal that came up by `?`
 pub refused_as : (ν : Naming) (s s' : State) (call : Call) (r : Result ℕ Fault) (f : Fault) → r ≡ Err f →
@@ -141,9 +141,9 @@ module _ {S N : Type 0} (view : S → View) (x : Service S N) where
       ap (λ (z : View). record { store = z; writers = (meaning view x).writers; readers = (meaning view x).readers })
       (same_store (view x.store) (view store) h)
 
-  pub writer-set : (w : ℕ) (row : OrderRow) (z : WriterRow) → w < length x.orders.rows → row_of w row ≡ z →
+  pub writer_set : (w : ℕ) (row : OrderRow) (z : WriterRow) → w < length x.orders.rows → row_of w row ≡ z →
       (λ m. row_of m (get_or (set x.orders.rows w row) m empty_row)) ≡ upd (meaning view x).writers w z
-  writer-set w row z h e =
+  writer_set w row z h e =
       upd_from (meaning view x).writers (λ m. row_of m (get_or (set x.orders.rows w row) m empty_row)) w z
       (ap (row_of w) (get_or-set_same x.orders.rows w row empty_row h) ∙ e)
       (λ m d. ap (row_of m) (get_or-set_other x.orders.rows w m row empty_row d))

@@ -46,61 +46,61 @@ module _ (h : ℕ → Option Content) where
   none_more x xs e f zero l = e
   none_more x xs e f (suc k) l = f k (omega arith)
 
-  latest-more : (x : ℕ) (xs : List ℕ) (t : ℕ) → (is_some (h x) ≡ true → later x t ≡ false) →
+  latest_more : (x : ℕ) (xs : List ℕ) (t : ℕ) → (is_some (h x) ≡ true → later x t ≡ false) →
       ((k : ℕ) → k < length xs → is_some (h (get_or xs k 0)) ≡ true → later (get_or xs k 0) t ≡ false) →
       (k : ℕ) → k < length (x ∷ xs) → is_some (h (get_or (x ∷ xs) k 0)) ≡ true → later (get_or (x ∷ xs) k 0) t ≡ false
-  latest-more x xs t here rest zero l g = here g
-  latest-more x xs t here rest (suc k) l g = rest k (omega arith) g
+  latest_more x xs t here rest zero l g = here g
+  latest_more x xs t here rest (suc k) l g = rest k (omega arith) g
 
   -- a stamp of the rest that is not before the first
-  from-rest : (x : ℕ) (xs : List ℕ) (t : ℕ) → (is_some (h x) ≡ true → later x t ≡ false) → Top xs t → Top (x ∷ xs) t
-  from-rest x xs t here f = record {
+  from_rest : (x : ℕ) (xs : List ℕ) (t : ℕ) → (is_some (h x) ≡ true → later x t ≡ false) → Top xs t → Top (x ∷ xs) t
+  from_rest x xs t here f = record {
     held = f.held;
     place = suc f.place;
     within = omega (arith, f.within);
     among = f.among;
-    latest = latest-more x xs t here f.latest;
+    latest = latest_more x xs t here f.latest;
   }
 
-  first-is : (x : ℕ) (xs : List ℕ) → is_some (h x) ≡ true →
+  first_is : (x : ℕ) (xs : List ℕ) → is_some (h x) ≡ true →
       ((k : ℕ) → k < length xs → is_some (h (get_or xs k 0)) ≡ true → later (get_or xs k 0) x ≡ false) → Top (x ∷ xs) x
-  first-is x xs e rest = record {
+  first_is x xs e rest = record {
     held = e;
     place = 0;
     within = omega arith;
     among = refl;
-    latest = latest-more x xs x (λ _. never_itself x) rest;
+    latest = latest_more x xs x (λ _. never_itself x) rest;
   }
 
   of_two : (x : ℕ) (xs : List ℕ) (t : ℕ) (b : Bool) → later t x ≡ b → is_some (h x) ≡ true → Top xs t → Top (x ∷ xs) (cond b t x)
-  of_two x xs t true e i f = from-rest x xs t (λ _. not_both t x e) f
-  of_two x xs t false e i f = first-is x xs i (λ k l g. not_later_on x t (get_or xs k 0) e (f.latest k l g))
+  of_two x xs t true e i f = from_rest x xs t (λ _. not_both t x e) f
+  of_two x xs t false e i f = first_is x xs i (λ k l g. not_later_on x t (get_or xs k 0) e (f.latest k l g))
 
   step : (x : ℕ) (xs : List ℕ) (c : Option Content) → h x ≡ c → (o : Option ℕ) → Found xs o →
       Found (x ∷ xs) (cond (is_some c) (Some (later_with x o)) o)
   step x xs None e None f = none_more x xs e f
-  step x xs None e (Some t) f = from-rest x xs t (λ g. absurd (none_not_some (h x) e g)) f
-  step x xs (Some c) e None f = first-is x xs (ap is_some e) (λ k l g. absurd (none_not_some (h (get_or xs k 0)) (f k l) g))
+  step x xs None e (Some t) f = from_rest x xs t (λ g. absurd (none_not_some (h x) e g)) f
+  step x xs (Some c) e None f = first_is x xs (ap is_some e) (λ k l g. absurd (none_not_some (h (get_or xs k 0)) (f k l) g))
   step x xs (Some c) e (Some t) f = of_two x xs t (later t x) refl (ap is_some e) f
 
   found : (ss : List ℕ) → Found ss (latest_held h ss)
   found [] = λ k l. absurd (omega arith)
   found (x ∷ xs) = step x xs (h x) refl (latest_held h xs) (found xs)
 
-  stamp-kept : (t : ℕ) (c : Option Content) → is_some c ≡ true → (version_with t c).0 ≡ t
-  stamp-kept t None e = absurd (both_ways false refl e)
-  stamp-kept t (Some x) e = refl
+  stamp_kept : (t : ℕ) (c : Option Content) → is_some c ≡ true → (version_with t c).0 ≡ t
+  stamp_kept t None e = absurd (both_ways false refl e)
+  stamp_kept t (Some x) e = refl
 
-  content-kept : (t : ℕ) (c : Option Content) → is_some c ≡ true → c ≡ Some ((version_with t c).1, (version_with t c).2)
-  content-kept t None e = absurd (both_ways false refl e)
-  content-kept t (Some x) e = refl
+  content_kept : (t : ℕ) (c : Option Content) → is_some c ≡ true → c ≡ Some ((version_with t c).1, (version_with t c).2)
+  content_kept t None e = absurd (both_ways false refl e)
+  content_kept t (Some x) e = refl
 
-  by-found : (ss : List ℕ) (o : Option ℕ) → Found ss o → LatestOf h ss (version_of h o) ⊎ NoneOf h ss (version_of h o)
-  by-found ss None f = inr (record { nothing = f; answer = refl })
-  by-found ss (Some t) f =
-      let same = stamp-kept t (h t) f.held in
+  by_found : (ss : List ℕ) (o : Option ℕ) → Found ss o → LatestOf h ss (version_of h o) ⊎ NoneOf h ss (version_of h o)
+  by_found ss None f = inr (record { nothing = f; answer = refl })
+  by_found ss (Some t) f =
+      let same = stamp_kept t (h t) f.held in
       inl (record {
-        held = ap h same ∙ content-kept t (h t) f.held;
+        held = ap h same ∙ content_kept t (h t) f.held;
         place = f.place;
         within = f.within;
         among = f.among ∙ sym same;
@@ -109,22 +109,22 @@ module _ (h : ℕ → Option Content) where
 
   -- ── one more stamp at the end ──
 
-  latest-push : (ss : List ℕ) (s : ℕ) →
+  latest_push : (ss : List ℕ) (s : ℕ) →
       latest_held h (ss ++ s ∷ []) ≡ cond (is_some (h s)) (Some (later_after (latest_held h ss) s)) (latest_held h ss)
-  latest-push [] s = refl
-  latest-push (x ∷ xs) s =
-      ap (λ o. cond (is_some (h x)) (Some (later_with x o)) o) (latest-push xs s)
+  latest_push [] s = refl
+  latest_push (x ∷ xs) s =
+      ap (λ o. cond (is_some (h x)) (Some (later_with x o)) o) (latest_push xs s)
       ∙ push_past x s (is_some (h x)) (is_some (h s)) (latest_held h xs)
 
   -- a stamp that is not held changes nothing
-  pub pick-skips : (ss : List ℕ) (s : ℕ) → h s ≡ None → picked h (ss ++ s ∷ []) ≡ picked h ss
-  pick-skips ss s e = ap (version_of h) (latest-push ss s ∙ cond-false (is_some (h s)) _ _ (ap is_some e))
+  pub pick_skips : (ss : List ℕ) (s : ℕ) → h s ≡ None → picked h (ss ++ s ∷ []) ≡ picked h ss
+  pick_skips ss s e = ap (version_of h) (latest_push ss s ∙ cond-false (is_some (h s)) _ _ (ap is_some e))
 
   rises_by : (ss : List ℕ) (o : Option ℕ) → Found ss o → (s : ℕ) (x : Content) → h s ≡ Some x → later s (version_of h o).0 ≡ true →
       version_of h (Some (later_after o s)) ≡ (s, x.0, x.1)
   rises_by ss None f s x e g = ap (version_with s) e
   rises_by ss (Some t) f s x e g =
-      let rose = ap (later s) (sym (stamp-kept t (h t) f.held)) ∙ g in
+      let rose = ap (later s) (sym (stamp_kept t (h t) f.held)) ∙ g in
       ap (λ u. version_with u (h u)) (cond-true (later s t) s t rose) ∙ ap (version_with s) e
 
   stays_by : (ss : List ℕ) (o : Option ℕ) → Found ss o → h 0 ≡ None → (s : ℕ) (x : Content) → h s ≡ Some x →
@@ -135,7 +135,7 @@ module _ (h : ℕ → Option Content) where
       (λ ne. both_ways (later s 0) g (zero_first s (omega arith)))
       (cases_eq s 0))
   stays_by ss (Some t) f none s x e g =
-      let stayed = ap (later s) (sym (stamp-kept t (h t) f.held)) ∙ g in
+      let stayed = ap (later s) (sym (stamp_kept t (h t) f.held)) ∙ g in
       ap (λ u. version_with u (h u)) (cond-false (later s t) s t stayed)
 
   -- where stamp 0 is not held, a held stamp gives the later of its version and the one picked so far
@@ -143,10 +143,10 @@ module _ (h : ℕ → Option Content) where
       picked h (ss ++ s ∷ []) ≡ later_version (picked h ss) (s, x.0, x.1)
   pick_more none ss s x e =
       let o = latest_held h ss in
-      ap (version_of h) (latest-push ss s ∙ cond-true (is_some (h s)) _ _ (ap is_some e))
+      ap (version_of h) (latest_push ss s ∙ cond-true (is_some (h s)) _ _ (ap is_some e))
       ∙ cond_both (later s (picked h ss).0) (s, x.0, x.1) (picked h ss) (λ y. version_of h (Some (later_after o s)) ≡ y)
       (rises_by ss o (found ss) s x e)
       (stays_by ss o (found ss) none s x e)
 
 pub picks : PicksTheLatest
-picks h ss = by-found h ss (latest_held h ss) (found h ss)
+picks h ss = by_found h ss (latest_held h ss) (found h ss)

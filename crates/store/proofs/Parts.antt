@@ -30,30 +30,30 @@ module _ {V W v w : View} {item : ℕ} (f : Handed V W v w item) where
         | inr p ↦ at s p.1.held
       ]
 
-  lasts-whole : (i : ℕ) → w.last i ≡ v.last i → W.last i ≡ V.last i
-  lasts-whole i e = elim (f.each i) [ inl p ↦ p.1.last ∙ e ∙ sym p.0.last | inr p ↦ p.1.last ]
+  lasts_whole : (i : ℕ) → w.last i ≡ v.last i → W.last i ≡ V.last i
+  lasts_whole i e = elim (f.each i) [ inl p ↦ p.1.last ∙ e ∙ sym p.0.last | inr p ↦ p.1.last ]
 
-  spaces-whole : (i : ℕ) → w.space i ≡ v.space i → W.space i ≡ V.space i
-  spaces-whole i e = elim (f.each i) [ inl p ↦ p.1.space ∙ e ∙ sym p.0.space | inr p ↦ p.1.space ]
+  spaces_whole : (i : ℕ) → w.space i ≡ v.space i → W.space i ≡ V.space i
+  spaces_whole i e = elim (f.each i) [ inl p ↦ p.1.space ∙ e ∙ sym p.0.space | inr p ↦ p.1.space ]
 
   whole_same : Same v w → Same V W
   whole_same s = record {
     held = λ i t. held_whole i t (s.held i t);
-    lasts = λ i. lasts-whole i (s.lasts i);
-    spaces = λ i. spaces-whole i (s.spaces i);
+    lasts = λ i. lasts_whole i (s.lasts i);
+    spaces = λ i. spaces_whole i (s.spaces i);
   }
 
   put_first : (stamp code mark : ℕ) → first_of (put_tests V item stamp code mark) ≡ first_of (put_tests v item stamp code mark)
   put_first stamp code mark = let a = at stamp f.before.held in let b = f.before.space in cc
 
-  pub whole-put : (stamp code mark : ℕ) (r : Result Bool StoreFault) → PutOutcome v w item stamp code mark r →
+  pub whole_put : (stamp code mark : ℕ) (r : Result Bool StoreFault) → PutOutcome v w item stamp code mark r →
       PutOutcome V W item stamp code mark r
-  whole-put stamp code mark (Ok fresh) h = record {
+  whole_put stamp code mark (Ok fresh) h = record {
     passes = put_first stamp code mark ∙ h.passes;
     new = let a = at stamp f.before.held in let b = h.new in cc;
     held = at stamp f.after.held ∙ h.held;
     others = λ i s apart. held_whole i s (h.others i s apart);
-    lasts = λ i. lasts-whole i (h.lasts i);
+    lasts = λ i. lasts_whole i (h.lasts i);
     space = let a = f.before.space in let b = f.after.space in let e = h.space in omega arith;
     falls = λ i.
         elim (f.each i) [
@@ -66,4 +66,4 @@ module _ {V W v w : View} {item : ℕ} (f : Handed V W v w item) where
           | inr p ↦ omega (arith, p.1.space)
         ];
   }
-  whole-put stamp code mark (Err fault) h = record { why = put_first stamp code mark ∙ h.why; same = whole_same h.same }
+  whole_put stamp code mark (Err fault) h = record { why = put_first stamp code mark ∙ h.why; same = whole_same h.same }

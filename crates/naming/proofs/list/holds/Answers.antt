@@ -5,5 +5,5 @@ use Rattle.naming.proofs.list.holds.Goals as goal
 
 pub returns : goal.returns
 returns c =
-    has_is c.args.item c.to-be-bytes.result c.contains.result c.contains.ensures.cases
-    ∙ ap (has c.args.item) c.to-be-bytes.ensures
+    has_is c.args.item c.to_be_bytes.result c.contains.result c.contains.ensures.cases
+    ∙ ap (has c.args.item) c.to_be_bytes.ensures

@@ -1,9 +1,9 @@
 use Rattle.std.proofs.Common.{get_or, sym, ◌∙◌}
-use Rattle.rows.proofs.Laid.{filled-tabled, eight-same}
+use Rattle.rows.proofs.Laid.{filled_tabled, eight_same}
 use Rattle.rows.proofs.places.eight.Goals as goal
 
 pub returns : goal.returns
 returns g c =
-    eight-same (λ k. get_or c.args.list.now k c.args.empty) _ _ _ _ _ _ _ _ c.at-or.ensures c.at-or-2.ensures
+    eight_same (λ k. get_or c.args.list.now k c.args.empty) _ _ _ _ _ _ _ _ c.at-or.ensures c.at-or-2.ensures
     c.at-or-3.ensures c.at-or-4.ensures c.at-or-5.ensures c.at-or-6.ensures c.at-or-7.ensures
-    c.at-or-8.ensures ∙ sym (filled-tabled 8 c.args.empty c.args.list.now)
+    c.at-or-8.ensures ∙ sym (filled_tabled 8 c.args.empty c.args.list.now)

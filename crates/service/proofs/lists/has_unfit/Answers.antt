@@ -1,5 +1,5 @@
 use Rattle.std.proofs.Common.{sym, ◌∙◌, arith}
-use Rattle.service.proofs.Listing.{no_code, unfit-here, fit-here, fit_all}
+use Rattle.service.proofs.Listing.{no_code, unfit_here, fit_here, fit_all}
 use Rattle.service.proofs.lists.has_unfit.Goals as goal
 
 pub returns-then-k-codes : goal.returns-then-k-codes
@@ -10,13 +10,13 @@ pub returns-then-not-fits-item : goal.returns-then-not-fits-item
 returns-then-not-fits-item c =
     sym
     (c.loop-k.invariant ∙
-    unfit-here c.args.items.now c.args.codes.now c.loop-k.k (omega arith) (omega arith)
+    unfit_here c.args.items.now c.args.codes.now c.loop-k.k (omega arith) (omega arith)
     (sym c.fits-item.ensures ∙ c.if-not-fits-item.true))
 
 pub loop-k-preserved : goal.loop-k-preserved
 loop-k-preserved c =
     c.loop-k.invariant ∙
-    fit-here c.args.items.now c.args.codes.now c.loop-k.k (omega arith) (omega arith)
+    fit_here c.args.items.now c.args.codes.now c.loop-k.k (omega arith) (omega arith)
     (sym c.fits-item.ensures ∙ c.if-not-fits-item.false)
 
 pub returns : goal.returns

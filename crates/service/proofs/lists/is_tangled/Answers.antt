@@ -2,7 +2,7 @@ use Rattle.std.proofs.Common.{◌+◌, get_or, sym, ap, ◌∙◌, arith}
 use Rattle.std.proofs.lemmas.List.{at_drop_all}
 use Rattle.blend.specs.Lists.{has}
 use Rattle.protocol.specs.Refusals.{bad_items}
-use Rattle.service.proofs.Listing.{suffix, zero-at, twice-at, good-at}
+use Rattle.service.proofs.Listing.{suffix, zero_at, twice_at, good_at}
 use Rattle.service.proofs.lists.is_tangled.Goals as goal
 use Rattle.service.proofs.lists.is_tangled.Goals.{then-items-k-eq0-via-then-items-k-eq0, then-items-k-eq0-via-else-items-k-eq0+then-has-item}
 
@@ -11,11 +11,11 @@ returns-then-items-k-eq0 c =
     let l = c.args.items.now in
     let k = c.loop-k.k in
     elim c.then-items-k-eq0.branch [
-      | then-items-k-eq0-via-then-items-k-eq0 w ↦ sym (c.loop-k.invariant ∙ zero-at l k c.loop-k-test.true w.if-items-k-eq0.true)
+      | then-items-k-eq0-via-then-items-k-eq0 w ↦ sym (c.loop-k.invariant ∙ zero_at l k c.loop-k-test.true w.if-items-k-eq0.true)
       | then-items-k-eq0-via-else-items-k-eq0+then-has-item w ↦
           sym
           (c.loop-k.invariant ∙
-          twice-at l k c.loop-k-test.true
+          twice_at l k c.loop-k-test.true
           (ap (has (get_or l k 0)) (sym (suffix l (k + 1))) ∙ sym w.has-item.ensures ∙ w.if-has-item.true))
     ]
 
@@ -24,7 +24,7 @@ loop-k-preserved c =
     let l = c.args.items.now in
     let k = c.loop-k.k in
     c.loop-k.invariant ∙
-    good-at l k c.loop-k-test.true c.if-items-k-eq0.false
+    good_at l k c.loop-k-test.true c.if-items-k-eq0.false
     (ap (has (get_or l k 0)) (sym (suffix l (k + 1))) ∙ sym c.has-item.ensures ∙ c.if-has-item.false)
 
 pub returns : goal.returns

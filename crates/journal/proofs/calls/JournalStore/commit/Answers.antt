@@ -3,7 +3,7 @@ use Rattle.blend.specs.Stamps.{later}
 use Rattle.journal.specs.Records.{records}
 use Rattle.journal.specs.Held.{lookup, last_of}
 use Rattle.journal.proofs.Outcomes.{commit_room}
-use Rattle.journal.proofs.Steps.{kept_of, facts, CommitOf, commit-at}
+use Rattle.journal.proofs.Steps.{kept_of, facts, CommitOf, commit_at}
 use Rattle.journal.proofs.calls.JournalStore.commit.Goals as goal
 use Rattle.journal.proofs.calls.JournalStore.commit.Goals.{After-deref-mut, After-size}
 
@@ -27,7 +27,7 @@ append-requires c =
 
 step : (c : goal.After-size) → CommitOf c.args.self.now c.append.new.bytes c.size.result c.args.item c.args.stamp
 step c =
-    commit-at c.args.self.now _ c.append.new.bytes (omega arith) c.deref-mut.ensures.value c.size.result _ _ c.size.ensures
+    commit_at c.args.self.now _ c.append.new.bytes (omega arith) c.deref-mut.ensures.value c.size.result _ _ c.size.ensures
     (omega arith, (omega arith, tt)) (omega arith) (omega arith)
     (held (goal.at.invariant-of-self c).After-deref-mut) (up (goal.at.invariant-of-self c).After-deref-mut) c.append.ensures
 

@@ -1,9 +1,9 @@
 use Rattle.std.proofs.Common.{◌≡◌, ℕ, ap, ◌∙◌, arith}
 use Rattle.store.specs.Meaning.{Version, blank}
 use Rattle.protocol.specs.Step.{later_version}
-use Rattle.rows.proofs.Changed.{second-set}
+use Rattle.rows.proofs.Changed.{second_set}
 use Rattle.rows.proofs.read.OpenRead.set_second.Goals as goal
 
 pub returns-then-place-lt8 : goal.returns-then-place-lt8
 returns-then-place-lt8 c = λ h.
-    second-set c.args.self.now c.args.place c.args.version c.later.result (grind arith) (grind arith) c.later.ensures
+    second_set c.args.self.now c.args.place c.args.version c.later.result (grind arith) (grind arith) c.later.ensures

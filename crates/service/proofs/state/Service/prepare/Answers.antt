@@ -4,13 +4,13 @@ use Rattle.store.specs.Outcomes.{PutOutcome}
 use Rattle.protocol.specs.State.{OpenOrder, the_order}
 use Rattle.protocol.specs.Calls.{by_writer, prepare}
 use Rattle.protocol.specs.Step.{prepared_at}
-use Rattle.protocol.proofs.Intro.{prepare-in, prepare-no}
+use Rattle.protocol.proofs.Intro.{prepare_in, prepare_no}
 use Rattle.rows.specs.declared.fault.Fault.{Fault}
 use Rattle.rows.specs.declared.order_changes.Placed.{Placed}
 use Rattle.rows.specs.Faults.{with_item}
 use Rattle.rows.specs.Rules.{rule_of}
 use Rattle.service.specs.Meaning.{meaning}
-use Rattle.service.proofs.Admitted.{may_prepare, was-ok, was-err, was-item, about_as, put-there, refused_as, store_same, writer-set, order_set}
+use Rattle.service.proofs.Admitted.{may_prepare, was_ok, was_err, was_item, about_as, put_there, refused_as, store_same, writer_set, order_set}
 use Rattle.service.proofs.state.Service.prepare.Goals as goal
 
 pub returns-in-err-fresh : goal.returns-in-err-fresh
@@ -24,21 +24,21 @@ returns-in-err-fresh g c =
     let o : Option OpenOrder = (s.writers w).current in
     let in_order = may_prepare o k (c.in-ok-admit.ensures.answer w) in
     let fault = c.in-err-fresh.field-0.0 in
-    let failed = was-err c.placed-at.result.item c.put.result fault (sym c.in-err-fresh.was ∙ c.about.ensures) in
-    let put = put-there (view x.store) (view c.put.new.self) g.N.Naming.marks o k c.placed-at.result (c.placed-at.ensures w)
+    let failed = was_err c.placed-at.result.item c.put.result fault (sym c.in-err-fresh.was ∙ c.about.ensures) in
+    let put = put_there (view x.store) (view c.put.new.self) g.N.Naming.marks o k c.placed-at.result (c.placed-at.ensures w)
     c.mark-mark.result c.put.result c.mark-mark.ensures c.put.ensures in
     let kept = subst (PutOutcome (view x.store) (view c.put.new.self) _ _ _ _) failed put in
     let b = err_from_is_err_and c.from-residual-in-err-fresh.result c.from-residual-in-err-fresh.ensures.1 in
     let is : c.from-residual-in-err-fresh.result ≡ Err (with_item fault) = b.1 ∙ ap (λ (f : Fault). Err f) b.2 in
     let item =
-    was-item c.placed-at.result.item c.put.result fault (sym c.in-err-fresh.was ∙ c.about.ensures) ∙
+    was_item c.placed-at.result.item c.put.result fault (sym c.in-err-fresh.was ∙ c.about.ensures) ∙
     ap (λ (q : Placed). q.item) (c.placed-at.ensures w)
     in
     record {
       step =
           refused_as ν s _ (by_writer w (prepare k)) c.from-residual-in-err-fresh.result (with_item fault)
           is
-          (prepare-no ν s _ w c.if-writer-gt15.false (the_order o) in_order.there k in_order.within _ kept.why
+          (prepare_no ν s _ w c.if-writer-gt15.false (the_order o) in_order.there k in_order.within _ kept.why
           (store_same view x c.put.new.self kept.same));
       carries = about_as _ c.from-residual-in-err-fresh.result (with_item fault) is item;
     }
@@ -53,20 +53,20 @@ returns g c =
     let k = c.args.place in
     let o : Option OpenOrder = (s.writers w).current in
     let in_order = may_prepare o k (c.in-ok-admit.ensures.answer w) in
-    let done = was-ok c.placed-at.result.item c.put.result c.in-ok-fresh.fresh c.in-ok-fresh.ensures in
-    let put = put-there (view x.store) (view c.put.new.self) g.N.Naming.marks o k c.placed-at.result (c.placed-at.ensures w)
+    let done = was_ok c.placed-at.result.item c.put.result c.in-ok-fresh.fresh c.in-ok-fresh.ensures in
+    let put = put_there (view x.store) (view c.put.new.self) g.N.Naming.marks o k c.placed-at.result (c.placed-at.ensures w)
     c.mark-mark.result c.put.result c.mark-mark.ensures c.put.ensures in
     let h : w < length x.orders.rows = grind arith in
     let few : k < 8 = let a = in_order.within in let b = c.in-ok-admit.ensures.few w in omega arith in
     record {
       step =
-          prepare-in ν s _ w c.if-writer-gt15.false (the_order o) in_order.there k in_order.within c.one_if.result
+          prepare_in ν s _ w c.if-writer-gt15.false (the_order o) in_order.there k in_order.within c.one_if.result
           (record {
             fresh = c.in-ok-fresh.fresh;
             puts = subst (PutOutcome (view x.store) (view c.put.new.self) _ _ _ _) done put;
             answer = c.one_if.ensures;
             writers =
-                writer-set view x w _ _ h
+                writer_set view x w _ _ h
                 (c.prepare.ensures few w ∙ order_set (s.writers w) (λ (y : OpenOrder). prepared_at y k) in_order.there);
             readers = refl;
           });

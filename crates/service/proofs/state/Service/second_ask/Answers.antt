@@ -10,7 +10,7 @@ use Rattle.protocol.specs.Step.{second_version, second_asked, later_version}
 use Rattle.protocol.proofs.Intro.{second_in}
 use Rattle.rows.specs.Rules.{rule_of}
 use Rattle.service.specs.Meaning.{meaning}
-use Rattle.service.proofs.Admitted.{may-second, second-made, second-due, second_early, refused_as, about_as, read_set}
+use Rattle.service.proofs.Admitted.{may_second, second_made, second_due, second_early, refused_as, about_as, read_set}
 use Rattle.service.proofs.state.Service.second_ask.Goals as goal
 
 pub returns-in-err-admit : goal.returns-in-err-admit
@@ -39,7 +39,7 @@ returns g c =
     let p = c.args.place in
     let o : Option OpenRead = s.readers r in
     let pass = c.in-ok-admit.ensures.answer in
-    let in-read = may-second ν o p pass in
+    let in-read = may_second ν o p pass in
     let v : Version = c.in-ok-version.version in
     let got = c.in-ok-version.ensures in
     let h : r < length x.reads.rows = grind arith in
@@ -47,7 +47,7 @@ returns g c =
     record {
       step =
           second_in ν s _ r c.if-reader-gt15.false (the_read o) in-read.there p in-read.within c.later-kept.result.0
-          (second-made ν o p pass) (second-due ν o p pass) got.passes v got.value
+          (second_made ν o p pass) (second_due ν o p pass) got.passes v got.value
           (ap (λ (u : Version). u.0) (c.later-kept.ensures ∙ ap (λ (k : Version). later_version k v) c.kept.ensures))
           (read_set view x r _ _ h
           (c.keep-second.ensures few ∙ ap (λ (z : Option OpenRead). option_map (λ (y : OpenRead). second_asked y p v) z) in-read.there));

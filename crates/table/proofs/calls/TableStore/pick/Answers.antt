@@ -1,7 +1,7 @@
 use Rattle.std.proofs.Common.{◌≡◌, ◌<◌, length, get_or, take, vec_items, sym, ap, ◌∙◌, arith, rules}
 use Rattle.std.proofs.lemmas.List.{take_more, take_all}
 use Rattle.store.specs.Meaning.{picked, later_version}
-use Rattle.store.proofs.Choosing.{pick_more, pick-skips}
+use Rattle.store.proofs.Choosing.{pick_more, pick_skips}
 use Rattle.table.specs.Rows.{lookup}
 use Rattle.table.proofs.Rows.{none_from}
 use Rattle.table.proofs.calls.TableStore.pick.Goals as goal
@@ -24,7 +24,7 @@ loop-stamp-preserved c =
           ∙ w.later-version-best.ensures
           ∙ ap (λ x. later_version x (s, w.in-Some.code, w.in-Some.mark)) best
           ∙ sym (more ∙ pick_more h blank done s (w.in-Some.code, w.in-Some.mark) (sym found ∙ w.in-Some.is))
-      | in-default w ↦ w.best-is ∙ best ∙ sym (more ∙ pick-skips h done s (sym found ∙ w.in-default.is))
+      | in-default w ↦ w.best-is ∙ best ∙ sym (more ∙ pick_skips h done s (sym found ∙ w.in-default.is))
     ]
 
 pub returns : goal.returns
