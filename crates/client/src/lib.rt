@@ -21,7 +21,7 @@ pub fn publish<S: Store>(
     code: u64,
     mark: u64,
 ) -> Result<(u32, u64, u64), StoreFault>
-    ensures { PublishOutcome (view store.old) (view store.new) item stamp code mark result }
+    ensures { PublishOutcome (S.view store.old) (S.view store.new) item stamp code mark result }
 {
     store.put(item, stamp, code, mark)?;
     store.commit(item, stamp)?;
@@ -44,7 +44,7 @@ fn quota_of_tables(
 
 // Publishes a version and then an earlier one of the same item.
 fn publish_two<S: Store>(store: &mut S) -> Result<(u32, u64, u64), StoreFault>
-    ensures { TakesTwo (view store.old) 100 → result ≡ Ok (33, 5, 6) }
+    ensures { TakesTwo (S.view store.old) 100 → result ≡ Ok (33, 5, 6) }
 {
     publish(store, 100, 33, 5, 6)?;
     publish(store, 100, 17, 1, 2)

@@ -24,22 +24,6 @@ kept_of j = record {
   committed = j.committed;
 }
 
--- in the order of the ghost fields
-abbrev pub Facts : List ℕ → ℕ → ℕ → Type 0
-Facts bs end count =
-    (end ≤ length bs)
-    × ((end ≡ used (records bs))
-    × ((drop end bs ≡ replicate (length bs - end) 0)
-    × ((count ≡ versions (records bs))
-    × ((count * 28 ≤ length bs)
-    × (Waits (records bs)
-    × (NoBlank (records bs)
-    × (LastsHeld (records bs)
-    × Unit {0})))))))
-
-pub facts : {bs : List ℕ} {end count : ℕ} → Kept bs end count → Facts bs end count
-facts k = (k.within, (k.ends, (k.clear, (k.counted, (k.room, (k.waits, (k.blank, (k.committed, tt))))))))
-
 abbrev pub PutOf : Journal → List ℕ → ℕ → ℕ → ℕ → ℕ → ℕ → Type 0
 PutOf j last n i s c m = PutStep (vec_items j.bytes) (vec_items (with_items j.bytes last)) j.end n j.count i s c m
 

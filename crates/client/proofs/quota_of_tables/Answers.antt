@@ -5,8 +5,8 @@ use Rattle.client.proofs.quota_of_tables.Goals as goal
 
 pub returns : goal.returns
 returns c =
-    let first = c.in-ok-first.ensures in
-    let second = c.in-ok-second.ensures in
+    let first = c.in_ok-first.ensures in
+    let second = c.in_ok-second.ensures in
     let parts = c.new-3.ensures in
     let whole = c.new-4.ensures in
     record {

@@ -15,7 +15,7 @@ returns c =
     record {
       answer = sym (is_within at n xs fits);
       after =
-          ap (λ (ys : List ℕ). put_mid at (at + n - at) xs ys) c.copy-from-slice.ensures.after
+          ap (λ (ys : List ℕ). put_mid at (at + n - at) xs ys) c.copy_from_slice.ensures.after
           ∙ ap (λ (j : ℕ). put_mid at j xs bs) k
           ∙ ap (λ (l : List ℕ). take at xs ++ (bs ++ l)) (drop-drop n at xs)
           ∙ sym (over_is at bs xs fits);

@@ -8,5 +8,5 @@ returns c =
     let item : ℕ = c.args.item in
     let one : item ≡ item / 1 % 256 = omega arith in
     let rest : List ℕ = laid version_widths (c.args.stamp ∷ c.args.code ∷ c.args.mark ∷ []) in
-    ap (λ (ys : List ℕ). item ∷ (ys ++ [])) (c.copy-from-slice.ensures.after ∙ c.version-body.ensures)
+    ap (λ (ys : List ℕ). item ∷ (ys ++ [])) (c.copy_from_slice.ensures.after ∙ c.version_body.ensures)
     ∙ ap (λ (x : ℕ). x ∷ rest) one

@@ -9,5 +9,5 @@ returns c =
     let at : ℕ = c.args.at in
     let fits : at + 4 ≤ length bs = omega arith in
     let e = ap (number_from_digits 256) (four_at bs at fits) in
-    let v : c.from-be-bytes.result ≡ number_from_digits 256 (take 4 (drop at bs)) = omega arith in
+    let v : c.from_be_bytes.result ≡ number_from_digits 256 (take 4 (drop at bs)) = omega arith in
     ap Some v ∙ sym (field_is 4 at bs fits)

@@ -8,8 +8,8 @@ pub returns : goal.returns
 returns c =
     let bs : List ℕ = c.args.bytes.now in
     let at : ℕ = c.args.at in
-    let high = found 4 at bs c.in-ok-high.high c.in-ok-high.ensures in
-    let low = found 4 (at + 4) bs c.in-ok-low.low c.in-ok-low.ensures in
+    let high = found 4 at bs c.in_ok-high.high c.in_ok-high.ensures in
+    let low = found 4 (at + 4) bs c.in_ok-low.low c.in_ok-low.ensures in
     let fits : at + 8 ≤ length bs = omega (arith, low.fits) in
     let e = number_add 4 4 (drop at bs) (let l = length-drop at bs in omega arith) in
     let f = ap (λ (l : List ℕ). number_from_digits 256 (take 4 l)) (drop-drop 4 at bs) in

@@ -6,6 +6,6 @@ use Rattle.frames.proofs.reply.write_reply.Goals as goal
 
 pub returns-in-Version : goal.returns-in-Version
 returns-in-Version c =
-    let e : 18 ∷ c.version-body.result ≡ frame_of replies c.args.reply = ap (λ (l : List ℕ). 18 ∷ l) c.version-body.ensures ∙ ap (frame_of replies) (sym c.in-Version.is) in
+    let e : 18 ∷ c.version_body.result ≡ frame_of replies c.args.reply = ap (λ (l : List ℕ). 18 ∷ l) c.version_body.ensures ∙ ap (frame_of replies) (sym c.in-Version.is) in
     let s = alike _ _ _ _ c.args.buf.now (ap reply_fault (sym c.in-Version.is)) e in
     record { answer = c.place-in-Version.ensures.answer ∙ s.answer; after = c.place-in-Version.ensures.after ∙ s.after }

@@ -9,8 +9,8 @@ pub returns : goal.returns
 returns c =
     let stamps : List ℕ = c.args.stamps.now in
     let item : ℕ = c.args.item in
-    let u : AllBelowBase 256 stamps = under_from stamps (λ i. (c.type-inv.stamps i).fits) in
-    let e = ap (λ (ys : List ℕ). 4 ∷ item ∷ (ys ++ [])) c.copy-from-slice.ensures.after
+    let u : AllBelowBase 256 stamps = under_from stamps (λ i. (c.type_inv.stamps i).fits) in
+    let e = ap (λ (ys : List ℕ). 4 ∷ item ∷ (ys ++ [])) c.copy_from_slice.ensures.after
     ∙ ap (λ (ys : List ℕ). 4 ∷ item ∷ ys) (append-nil stamps)
     ∙ pick_frame item stamps (omega arith) u c.if-stamps-ne32.false in
     let s = alike _ _ _ _ c.args.buf.now (sym (cond-true _ _ _ (eq-eqb _ 32 c.if-stamps-ne32.false))) e in

@@ -4,6 +4,6 @@ use Rattle.frames.proofs.server.serve.Goals as goal
 
 pub returns : goal.returns
 returns g c = record {
-  served = served _ c.reply-to.result _ _ _ c.reply-to.ensures.value c.reply-to.ensures.sendable (omega arith) c.write-reply.ensures.answer c.write-reply.ensures.after;
+  served = served _ c.reply_to.result _ _ _ c.reply_to.ensures.value c.reply_to.ensures.sendable (omega arith) c.write_reply.ensures.answer c.write_reply.ensures.after;
   unmoved = λ h. absurd (omega arith);
 }

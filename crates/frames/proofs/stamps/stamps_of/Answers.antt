@@ -12,8 +12,8 @@ loop-i-preserved c =
     let i : ℕ = c.loop-i.i in
     let ss : List ℕ = c.loop-i.stamps in
     let bs : List ℕ = c.args.bytes.now in
-    let v : ℕ = c.in-ok-stamps.field-0 in
-    let at = found 4 (4 * i) bs v c.in-ok-stamps.ensures in
+    let v : ℕ = c.in_ok-stamps.field-0 in
+    let at = found 4 (4 * i) bs v c.in_ok-stamps.ensures in
     let lt : i < length ss = omega arith in
     let long : length ss ≡ 8 = omega arith in (
       simp length-set long,

@@ -17,10 +17,10 @@ laid_by xs ys b end r q h e f g =
 
 pub returns-in-Put : goal.returns-in-Put
 returns-in-Put c =
-    let l = laid_by _ _ _ _ _ _ c.requires c.lay-at.ensures.after c.put-body.ensures c.in-Put.is in
+    let l = laid_by _ _ _ _ _ _ c.requires c.lay_at.ensures.after c.put_body.ensures c.in-Put.is in
     record { after = l.after; stands = l.stands }
 
 pub returns-in-Commit : goal.returns-in-Commit
 returns-in-Commit c =
-    let l = laid_by _ _ _ _ _ _ c.requires c.lay-at-in-Commit.ensures.after c.commit-body.ensures c.in-Commit.is in
+    let l = laid_by _ _ _ _ _ _ c.requires c.lay_at-in-Commit.ensures.after c.commit_body.ensures c.in-Commit.is in
     record { after = l.after; stands = l.stands }

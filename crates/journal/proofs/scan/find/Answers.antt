@@ -6,12 +6,12 @@ use Rattle.journal.proofs.Scans.{at_some, at_none}
 use Rattle.journal.proofs.Counts.{held_here, held_past}
 use Rattle.journal.proofs.scan.find.Goals as goal
 
-pub returns-then-is-some : goal.returns-then-is-some
-returns-then-is-some c =
+pub returns-then-is_some : goal.returns-then-is_some
+returns-then-is_some c =
     let bs : List ℕ = c.args.bytes.now in
     let r : Record = c.in-Some.record in
     let a = at_some bs c.loop-record.at r c.loop-record.invariant.0 c.in-Some.ensures in
-    held_here r (records (drop (c.loop-record.at + size r) bs)) _ _ c.held-found.result c.held-found.ensures (sym c.if-is-some.ensures)
+    held_here r (records (drop (c.loop-record.at + size r) bs)) _ _ c.held-found.result c.held-found.ensures (sym c.if-is_some.ensures)
     ∙ sym (ap (λ (l : List Record). lookup l c.args.item c.args.stamp) a.records_are)
     ∙ c.loop-record.invariant.1
 
@@ -23,12 +23,12 @@ loop-record-preserved c =
     let n : c.size-at.result ≡ size r = c.size-at.ensures in (
       omega (arith, a.within),
       ap (λ (k : ℕ). lookup (records (drop (c.loop-record.at + k) bs)) c.args.item c.args.stamp) n
-          ∙ sym (held_past r (records (drop (c.loop-record.at + size r) bs)) _ _ c.held-found.result c.held-found.ensures (sym c.if-is-some.ensures))
+          ∙ sym (held_past r (records (drop (c.loop-record.at + size r) bs)) _ _ c.held-found.result c.held-found.ensures (sym c.if-is_some.ensures))
           ∙ sym (ap (λ (l : List Record). lookup l c.args.item c.args.stamp) a.records_are)
           ∙ c.loop-record.invariant.1,
     )
 
 pub returns : goal.returns
 returns c =
-    sym (ap (λ (l : List Record). lookup l c.args.item c.args.stamp) (at_none c.args.bytes.now c.loop-record.at c.in-default.ensures))
+    sym (ap (λ (l : List Record). lookup l c.args.item c.args.stamp) (at_none c.args.bytes.now c.loop-record.at c.in_default.ensures))
     ∙ c.loop-record.invariant.1

@@ -24,5 +24,5 @@ loop-record-preserved c =
 
 pub returns : goal.returns
 returns c =
-    sym (ap (λ (l : List Record). last_from c.loop-record.last l c.args.item) (at_none c.args.bytes.now c.loop-record.at c.in-default.ensures))
+    sym (ap (λ (l : List Record). last_from c.loop-record.last l c.args.item) (at_none c.args.bytes.now c.loop-record.at c.in_default.ensures))
     ∙ c.loop-record.invariant.1

@@ -19,8 +19,8 @@ loop-call-preserved g c =
     let len : length (vec_items old) ≡ k = search rules in (
       trace_more ν (meaning view c.args.service.now) (meaning view c.loop-call.service)
           (meaning view c.make-answer.new.service) c.args.calls.now (vec_items old)
-          (vec_items c.push-reserved.new.self) k c.call-item.result c.make-answer.result len (omega arith)
-          c.call-item.is c.push-reserved.ensures.items c.loop-call.invariant.0 c.make-answer.ensures,
+          (vec_items c.push_reserved.new.self) k c.call-item.result c.make-answer.result len (omega arith)
+          c.call-item.is c.push_reserved.ensures.items c.loop-call.invariant.0 c.make-answer.ensures,
       search rules,
       search rules,
     )

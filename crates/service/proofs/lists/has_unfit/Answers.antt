@@ -6,18 +6,18 @@ pub returns-then-k-codes : goal.returns-then-k-codes
 returns-then-k-codes c =
     sym (c.loop-k.invariant ∙ no_code c.args.items.now c.args.codes.now c.loop-k.k (omega arith) (omega arith))
 
-pub returns-then-not-fits-item : goal.returns-then-not-fits-item
-returns-then-not-fits-item c =
+pub returns-then-not-fits_item : goal.returns-then-not-fits_item
+returns-then-not-fits_item c =
     sym
     (c.loop-k.invariant ∙
     unfit_here c.args.items.now c.args.codes.now c.loop-k.k (omega arith) (omega arith)
-    (sym c.fits-item.ensures ∙ c.if-not-fits-item.true))
+    (sym c.fits_item.ensures ∙ c.if-not-fits_item.true))
 
 pub loop-k-preserved : goal.loop-k-preserved
 loop-k-preserved c =
     c.loop-k.invariant ∙
     fit_here c.args.items.now c.args.codes.now c.loop-k.k (omega arith) (omega arith)
-    (sym c.fits-item.ensures ∙ c.if-not-fits-item.false)
+    (sym c.fits_item.ensures ∙ c.if-not-fits_item.false)
 
 pub returns : goal.returns
 returns c = sym (c.loop-k.invariant ∙ fit_all c.args.items.now c.args.codes.now c.loop-k.k (omega arith))

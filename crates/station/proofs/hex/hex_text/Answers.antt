@@ -17,4 +17,4 @@ returns c =
     let bs : List ℕ = c.args.bytes.now in
     let e : string_bytes c.loop-b.text ≡ hex_line bs =
     write_all byte_hex bs (string_bytes c.loop-b.text) (hex_line bs) c.loop-b.b-index c.loop-b-test.false c.loop-b.invariant in
-    record { text = e; back = ap hex_of e ∙ reads_back bs (All-from_get_or (λ (n : ℕ). n < 256) bs 0 (λ i _. (c.type-inv.bytes i).fits)) }
+    record { text = e; back = ap hex_of e ∙ reads_back bs (All-from_get_or (λ (n : ℕ). n < 256) bs 0 (λ i _. (c.type_inv.bytes i).fits)) }

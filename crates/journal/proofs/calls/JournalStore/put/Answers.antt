@@ -3,7 +3,7 @@ use Rattle.journal.specs.Records.{records}
 use Rattle.journal.specs.Held.{lookup}
 use Rattle.journal.specs.Means.{journal_view}
 use Rattle.journal.proofs.Outcomes.{put_room}
-use Rattle.journal.proofs.Steps.{kept_of, facts, PutOf, put_at}
+use Rattle.journal.proofs.Steps.{kept_of, PutOf, put_at}
 use Rattle.journal.proofs.calls.JournalStore.put.Goals as goal
 use Rattle.journal.proofs.calls.JournalStore.put.Goals.{After-size}
 
@@ -24,11 +24,22 @@ step c =
     let none : lookup (records (vec_items j.bytes)) c.args.item c.args.stamp ≡ None =
     sym (c.in-None.ensures ∙ ap (λ (l : List ℕ). lookup (records l) c.args.item c.args.stamp) c.deref.ensures.value) in
     let room : 0 < (journal_view j).space c.args.item = omega (arith, c.space.ensures.value 0) in
-    put_at j _ c.append.new.bytes (omega arith) c.deref-mut.ensures.value c.size.result _ _ _ _ c.size.ensures
+    put_at j _ c.append.new.bytes (omega arith) c.deref_mut.ensures.value c.size.result _ _ _ _ c.size.ensures
     (omega arith, (omega arith, (omega arith, (omega arith, tt)))) (omega arith) (omega arith) none room c.append.ensures
 
-pub invariant-of-self : goal.invariant-of-self
-invariant-of-self c = facts (step c).kept
+pub invariant_of-self : goal.invariant_of-self
+invariant_of-self c =
+    let k = (step c).kept in
+    record {
+      within = k.within;
+      ends = k.ends;
+      clear = k.clear;
+      counted = k.counted;
+      room = k.room;
+      waits = k.waits;
+      blank = k.blank;
+      committed = k.committed;
+    }
 
 pub returns-else-space-eq0 : goal.returns-else-space-eq0
 returns-else-space-eq0 c = (step (goal.at.returns-else-space-eq0 c).After-size).done

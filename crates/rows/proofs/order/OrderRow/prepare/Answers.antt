@@ -4,5 +4,5 @@ use Rattle.rows.proofs.order.OrderRow.prepare.Goals as goal
 
 pub returns-in-Some : goal.returns-in-Some
 returns-in-Some c = λ h w.
-    order_changed w c.args.self.now c.in-Some.order c.set-prepared.new.self (λ x. prepared_at x c.args.place)
-    c.in-Some.is (c.set-prepared.ensures h w)
+    order_changed w c.args.self.now c.in-Some.order c.set_prepared.new.self (λ x. prepared_at x c.args.place)
+    c.in-Some.is (c.set_prepared.ensures h w)

@@ -7,4 +7,4 @@ use Rattle.rows.proofs.read.ReadRow.kept.Goals as goal
 
 pub returns-in-Some : goal.returns-in-Some
 returns-in-Some c =
-    c.at-or.ensures ∙ sym (ap (λ (o : Option OpenRead). (the_read (option_map read_in o)).kept c.args.place) c.in-Some.is)
+    c.at_or.ensures ∙ sym (ap (λ (o : Option OpenRead). (the_read (option_map read_in o)).kept c.args.place) c.in-Some.is)

@@ -13,8 +13,8 @@ use Rattle.service.specs.Meaning.{meaning}
 use Rattle.service.proofs.Admitted.{may_commit, was_ok, was_err, was_item, about_as, commit_there, refused_as, store_same, writer_set, order_set}
 use Rattle.service.proofs.state.Service.commit.Goals as goal
 
-pub returns-in-err-rose : goal.returns-in-err-rose
-returns-in-err-rose g c =
+pub returns-in_err-rose : goal.returns-in_err-rose
+returns-in_err-rose g c =
     let ν = rule_of g.N.Naming.marks g.N.Naming.named g.N.Naming.twice in
     let view = g.S.Store.view in
     let x = c.args.self.now in
@@ -22,25 +22,25 @@ returns-in-err-rose g c =
     let w = c.args.writer in
     let k = c.args.place in
     let o : Option OpenOrder = (s.writers w).current in
-    let in_order = may_commit o k (c.in-ok-admit.ensures.answer w) in
-    let fault = c.in-err-rose.field-0.0 in
-    let failed = was_err c.placed-at.result.item c.commit.result fault (sym c.in-err-rose.was ∙ c.about.ensures) in
+    let in_order = may_commit o k (c.in_ok-admit.ensures.answer w) in
+    let fault = c.in_err-rose.field-0.0 in
+    let failed = was_err c.placed-at.result.item c.commit.result fault (sym c.in_err-rose.was ∙ c.about.ensures) in
     let tried = commit_there (view x.store) (view c.commit.new.self) g.N.Naming.marks o k c.placed-at.result
     (c.placed-at.ensures w) c.commit.result c.commit.ensures in
     let kept = subst (CommitOutcome (view x.store) (view c.commit.new.self) _ _) failed tried in
-    let b = err_from_is_err_and c.from-residual-in-err-rose.result c.from-residual-in-err-rose.ensures.1 in
-    let is : c.from-residual-in-err-rose.result ≡ Err (with_item fault) = b.1 ∙ ap (λ (f : Fault). Err f) b.2 in
+    let b = err_from_is_err_and c.from_residual-in_err-rose.result c.from_residual-in_err-rose.ensures.1 in
+    let is : c.from_residual-in_err-rose.result ≡ Err (with_item fault) = b.1 ∙ ap (λ (f : Fault). Err f) b.2 in
     let item =
-    was_item c.placed-at.result.item c.commit.result fault (sym c.in-err-rose.was ∙ c.about.ensures) ∙
+    was_item c.placed-at.result.item c.commit.result fault (sym c.in_err-rose.was ∙ c.about.ensures) ∙
     ap (λ (q : Placed). q.item) (c.placed-at.ensures w)
     in
     record {
       step =
-          refused_as ν s _ (by_writer w (commit k)) c.from-residual-in-err-rose.result (with_item fault)
+          refused_as ν s _ (by_writer w (commit k)) c.from_residual-in_err-rose.result (with_item fault)
           is
           (commit_no ν s _ w c.if-writer-gt15.false (the_order o) in_order.0.there k in_order.0.within _ in_order.1 kept.why
           (store_same view x c.commit.new.self kept.same));
-      carries = about_as _ c.from-residual-in-err-rose.result (with_item fault) is item;
+      carries = about_as _ c.from_residual-in_err-rose.result (with_item fault) is item;
     }
 
 pub returns : goal.returns
@@ -52,17 +52,17 @@ returns g c =
     let w = c.args.writer in
     let k = c.args.place in
     let o : Option OpenOrder = (s.writers w).current in
-    let in_order = may_commit o k (c.in-ok-admit.ensures.answer w) in
-    let done = was_ok c.placed-at.result.item c.commit.result c.in-ok-rose.rose c.in-ok-rose.ensures in
+    let in_order = may_commit o k (c.in_ok-admit.ensures.answer w) in
+    let done = was_ok c.placed-at.result.item c.commit.result c.in_ok-rose.rose c.in_ok-rose.ensures in
     let tried = commit_there (view x.store) (view c.commit.new.self) g.N.Naming.marks o k c.placed-at.result
     (c.placed-at.ensures w) c.commit.result c.commit.ensures in
     let h : w < length x.orders.rows = grind arith in
-    let few : k < 8 = let a = in_order.0.within in let b = c.in-ok-admit.ensures.few w in omega arith in
+    let few : k < 8 = let a = in_order.0.within in let b = c.in_ok-admit.ensures.few w in omega arith in
     record {
       step =
           commit_in ν s _ w c.if-writer-gt15.false (the_order o) in_order.0.there k in_order.0.within c.one_if.result in_order.1
           (record {
-            rose = c.in-ok-rose.rose;
+            rose = c.in_ok-rose.rose;
             commits = subst (CommitOutcome (view x.store) (view c.commit.new.self) _ _) done tried;
             answer = c.one_if.ensures;
             writers =

@@ -13,8 +13,8 @@ use Rattle.service.specs.Meaning.{meaning}
 use Rattle.service.proofs.Admitted.{may_prepare, was_ok, was_err, was_item, about_as, put_there, refused_as, store_same, writer_set, order_set}
 use Rattle.service.proofs.state.Service.prepare.Goals as goal
 
-pub returns-in-err-fresh : goal.returns-in-err-fresh
-returns-in-err-fresh g c =
+pub returns-in_err-fresh : goal.returns-in_err-fresh
+returns-in_err-fresh g c =
     let ν = rule_of g.N.Naming.marks g.N.Naming.named g.N.Naming.twice in
     let view = g.S.Store.view in
     let x = c.args.self.now in
@@ -22,25 +22,25 @@ returns-in-err-fresh g c =
     let w = c.args.writer in
     let k = c.args.place in
     let o : Option OpenOrder = (s.writers w).current in
-    let in_order = may_prepare o k (c.in-ok-admit.ensures.answer w) in
-    let fault = c.in-err-fresh.field-0.0 in
-    let failed = was_err c.placed-at.result.item c.put.result fault (sym c.in-err-fresh.was ∙ c.about.ensures) in
+    let in_order = may_prepare o k (c.in_ok-admit.ensures.answer w) in
+    let fault = c.in_err-fresh.field-0.0 in
+    let failed = was_err c.placed-at.result.item c.put.result fault (sym c.in_err-fresh.was ∙ c.about.ensures) in
     let put = put_there (view x.store) (view c.put.new.self) g.N.Naming.marks o k c.placed-at.result (c.placed-at.ensures w)
     c.mark-mark.result c.put.result c.mark-mark.ensures c.put.ensures in
     let kept = subst (PutOutcome (view x.store) (view c.put.new.self) _ _ _ _) failed put in
-    let b = err_from_is_err_and c.from-residual-in-err-fresh.result c.from-residual-in-err-fresh.ensures.1 in
-    let is : c.from-residual-in-err-fresh.result ≡ Err (with_item fault) = b.1 ∙ ap (λ (f : Fault). Err f) b.2 in
+    let b = err_from_is_err_and c.from_residual-in_err-fresh.result c.from_residual-in_err-fresh.ensures.1 in
+    let is : c.from_residual-in_err-fresh.result ≡ Err (with_item fault) = b.1 ∙ ap (λ (f : Fault). Err f) b.2 in
     let item =
-    was_item c.placed-at.result.item c.put.result fault (sym c.in-err-fresh.was ∙ c.about.ensures) ∙
+    was_item c.placed-at.result.item c.put.result fault (sym c.in_err-fresh.was ∙ c.about.ensures) ∙
     ap (λ (q : Placed). q.item) (c.placed-at.ensures w)
     in
     record {
       step =
-          refused_as ν s _ (by_writer w (prepare k)) c.from-residual-in-err-fresh.result (with_item fault)
+          refused_as ν s _ (by_writer w (prepare k)) c.from_residual-in_err-fresh.result (with_item fault)
           is
           (prepare_no ν s _ w c.if-writer-gt15.false (the_order o) in_order.there k in_order.within _ kept.why
           (store_same view x c.put.new.self kept.same));
-      carries = about_as _ c.from-residual-in-err-fresh.result (with_item fault) is item;
+      carries = about_as _ c.from_residual-in_err-fresh.result (with_item fault) is item;
     }
 
 pub returns : goal.returns
@@ -52,17 +52,17 @@ returns g c =
     let w = c.args.writer in
     let k = c.args.place in
     let o : Option OpenOrder = (s.writers w).current in
-    let in_order = may_prepare o k (c.in-ok-admit.ensures.answer w) in
-    let done = was_ok c.placed-at.result.item c.put.result c.in-ok-fresh.fresh c.in-ok-fresh.ensures in
+    let in_order = may_prepare o k (c.in_ok-admit.ensures.answer w) in
+    let done = was_ok c.placed-at.result.item c.put.result c.in_ok-fresh.fresh c.in_ok-fresh.ensures in
     let put = put_there (view x.store) (view c.put.new.self) g.N.Naming.marks o k c.placed-at.result (c.placed-at.ensures w)
     c.mark-mark.result c.put.result c.mark-mark.ensures c.put.ensures in
     let h : w < length x.orders.rows = grind arith in
-    let few : k < 8 = let a = in_order.within in let b = c.in-ok-admit.ensures.few w in omega arith in
+    let few : k < 8 = let a = in_order.within in let b = c.in_ok-admit.ensures.few w in omega arith in
     record {
       step =
           prepare_in ν s _ w c.if-writer-gt15.false (the_order o) in_order.there k in_order.within c.one_if.result
           (record {
-            fresh = c.in-ok-fresh.fresh;
+            fresh = c.in_ok-fresh.fresh;
             puts = subst (PutOutcome (view x.store) (view c.put.new.self) _ _ _ _) done put;
             answer = c.one_if.ensures;
             writers =

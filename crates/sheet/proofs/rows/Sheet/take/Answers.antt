@@ -7,7 +7,7 @@ returns c =
     record {
       answer = search rules;
       items =
-          take_more_set c.args.self.now.items c.args.self.now.count c.in-ok-entry.entry.item (grind arith);
+          take_more_set c.args.self.now.items c.args.self.now.count c.in_ok-entry.entry.item (grind arith);
       codes =
-          take_more_set c.args.self.now.codes c.args.self.now.count c.in-ok-entry.entry.code (grind arith);
+          take_more_set c.args.self.now.codes c.args.self.now.count c.in_ok-entry.entry.code (grind arith);
     }

@@ -5,7 +5,7 @@ use Rattle.store.proofs.Choosing.{pick_more, pick_skips}
 use Rattle.table.specs.Rows.{lookup}
 use Rattle.table.proofs.Rows.{none_from}
 use Rattle.table.proofs.calls.TableStore.pick.Goals as goal
-use Rattle.table.proofs.calls.TableStore.pick.Goals.{in-Some, in-default}
+use Rattle.table.proofs.calls.TableStore.pick.Goals.{in-Some, in_default}
 
 pub loop-stamp-preserved : goal.loop-stamp-preserved
 loop-stamp-preserved c =
@@ -21,10 +21,10 @@ loop-stamp-preserved c =
     elim c.match-find.branch [
       | in-Some w ↦
           w.best-is
-          ∙ w.later-version-best.ensures
+          ∙ w.later_version-best.ensures
           ∙ ap (λ x. later_version x (s, w.in-Some.code, w.in-Some.mark)) best
           ∙ sym (more ∙ pick_more h blank done s (w.in-Some.code, w.in-Some.mark) (sym found ∙ w.in-Some.is))
-      | in-default w ↦ w.best-is ∙ best ∙ sym (more ∙ pick_skips h done s (sym found ∙ w.in-default.is))
+      | in_default w ↦ w.best-is ∙ best ∙ sym (more ∙ pick_skips h done s (sym found ∙ w.in_default.is))
     ]
 
 pub returns : goal.returns

@@ -3,25 +3,19 @@ use Rattle.table.specs.Rows.{lookup}
 use Rattle.table.proofs.Rows.{push_done, push_keeps, push_other}
 use Rattle.table.proofs.calls.TableStore.put.Goals as goal
 
-pub invariant-of-self : goal.invariant-of-self
-invariant-of-self c =
+pub invariant_of-self : goal.invariant_of-self
+invariant_of-self c =
     let rs = vec_items c.args.self.now.rows in
-    let e = c.push-reserved.ensures.items in (
-      omega arith,
-      (
-        omega arith,
-        (
-          λ i. ap (λ l. is_some (lookup l i 0)) e ∙ ap is_some (push_other rs _ _ _ _ i 0 (λ p q. omega arith)) ∙ c.args.self.now.blank i,
-          (
-            λ i h. ap (λ l. is_some (lookup l i (get_or c.args.self.now.lasts i 0))) e ∙ push_keeps rs _ i _ (c.args.self.now.committed i h),
-            tt,
-          ),
-        ),
-      ),
-    )
+    let e = c.push_reserved.ensures.items in
+    record {
+      within = omega arith;
+      reserved = omega arith;
+      blank = λ i. ap (λ l. is_some (lookup l i 0)) e ∙ ap is_some (push_other rs _ _ _ _ i 0 (λ p q. omega arith)) ∙ c.args.self.now.blank i;
+      committed = λ i h. ap (λ l. is_some (lookup l i (get_or c.args.self.now.lasts i 0))) e ∙ push_keeps rs _ i _ (c.args.self.now.committed i h);
+    }
 
 pub returns-else-len-self : goal.returns-else-len-self
 returns-else-len-self c =
     let rs = vec_items c.args.self.now.rows in
     let room : length rs < c.args.self.now.size = omega arith in
-    push_done rs _ _ _ _ _ _ _ c.push-reserved.ensures.items (omega arith) (omega arith) (search rules) room
+    push_done rs _ _ _ _ _ _ _ c.push_reserved.ensures.items (omega arith) (omega arith) (search rules) room
