@@ -6,5 +6,5 @@ use Rattle.script.proofs.calls.read_file.Goals as goal
 pub returns : goal.returns
 returns c =
     c.filed.ensures ∙
-    file_line c.args.line.now c.byte-at.result c.sequence_at.result (in_terms lists_of c.in-ok-lists.lists) (omega arith)
-    c.byte-at.ensures c.sequence_at.ensures c.in-ok-lists.ensures
+    file_line c.args.line.now c.byte_at.result c.sequence_at.result (in_terms lists_of c.in_ok-lists.lists) (omega arith)
+    c.byte_at.ensures c.sequence_at.ensures c.in_ok-lists.ensures

@@ -6,6 +6,6 @@ pub loop-rest-preserved : goal.loop-rest-preserved
 loop-rest-preserved c =
     entries_next (vec_items c.loop-rest.lists.items) (vec_items c.loop-rest.lists.codes) (vec_items c.add.new.self.items)
     (vec_items c.add.new.self.codes) c.in-Ok.entry c.part-width.result c.loop-rest.rest.now
-    c.loop-rest-test.ensures c.part-width.ensures c.in-Ok.ensures c.in-ok-add.ensures.items
-    c.in-ok-add.ensures.codes ∙
+    c.loop-rest-test.ensures c.part-width.ensures c.in-Ok.ensures c.in_ok-add-in-Ok.ensures.items
+    c.in_ok-add-in-Ok.ensures.codes ∙
     c.loop-rest.invariant

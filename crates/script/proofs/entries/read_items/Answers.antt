@@ -11,7 +11,7 @@ returns-in-Err c =
 
 pub loop-i-preserved : goal.loop-i-preserved
 loop-i-preserved c =
-    ap (λ (xs : List ℕ). bytes_onto (Ok xs) (drop (c.loop-i.i + 1) c.args.line.now)) c.in-ok-push.ensures.items ∙
+    ap (λ (xs : List ℕ). bytes_onto (Ok xs) (drop (c.loop-i.i + 1) c.args.line.now)) c.in_ok-push-in-Ok.ensures.items ∙
     sym (bytes_more (vec_items c.loop-i.items) c.args.line.now c.loop-i.i (Ok c.in-Ok.item) (omega arith) c.in-Ok.ensures) ∙
     c.loop-i.invariant
 

@@ -7,7 +7,7 @@ pub returns : goal.returns
 returns c =
     add_three (string_bytes c.args.text.now) (string_bytes c.push.new.self) (string_bytes c.push-2.new.self)
     (string_bytes c.push-3.new.self) _ _ _ 32 (digit_char (c.args.b / 16)) (digit_char (c.args.b % 16))
-    c.in-ok-push.ensures.bytes c.in-ok-push-2.ensures.bytes c.in-ok-push-3.ensures.bytes
-    (c.in-ok-push.ensures.ascii (omega arith))
-    (c.in-ok-push-2.ensures.ascii c.digit-char.ensures.ascii ∙ ap (λ (d : ℕ). d ∷ []) c.digit-char.ensures.value)
-    (c.in-ok-push-3.ensures.ascii c.digit-char-2.ensures.ascii ∙ ap (λ (d : ℕ). d ∷ []) c.digit-char-2.ensures.value)
+    c.in_ok-push.ensures.bytes c.in_ok-push-2.ensures.bytes c.in_ok-push-3.ensures.bytes
+    (c.in_ok-push.ensures.ascii (omega arith))
+    (c.in_ok-push-2.ensures.ascii c.digit_char.ensures.ascii ∙ ap (λ (d : ℕ). d ∷ []) c.digit_char.ensures.value)
+    (c.in_ok-push-3.ensures.ascii c.digit_char-2.ensures.ascii ∙ ap (λ (d : ℕ). d ∷ []) c.digit_char-2.ensures.value)

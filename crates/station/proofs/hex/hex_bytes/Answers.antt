@@ -13,15 +13,15 @@ take-requires c = c.loop-c.invariant.1
 pub returns-in-Err : goal.returns-in-Err
 returns-in-Err c =
     read_more c.args.line.now (vec_items c.loop-c.bytes) (vec_items c.take.new.bytes) c.loop-c.half c.loop-c.c-index
-    c.in-ok-next.field-0 (Err c.in-Err.fault) c.loop-c-test.true c.in-ok-next.ensures.value c.in-Err.is
+    c.in_ok-next.field-0 (Err c.in-Err.fault) c.loop-c-test.true c.in_ok-next.ensures.value c.in-Err.is
     c.loop-c.invariant.0
 
 pub loop-c-preserved : goal.loop-c-preserved
 loop-c-preserved c = (
   read_more c.args.line.now (vec_items c.loop-c.bytes) (vec_items c.take.new.bytes) c.loop-c.half c.loop-c.c-index
-      c.in-ok-next.field-0 (Ok c.in-Ok.next) c.loop-c-test.true c.in-ok-next.ensures.value c.in-Ok.is
+      c.in_ok-next.field-0 (Ok c.in-Ok.next) c.loop-c-test.true c.in_ok-next.ensures.value c.in-Ok.is
       c.loop-c.invariant.0,
-  subst (λ (x : Result (Option ℕ) HexFault). IfOk x Small) c.in-Ok.is c.in-ok-next.ensures.small,
+  subst (λ (x : Result (Option ℕ) HexFault). IfOk x Small) c.in-Ok.is c.in_ok-next.ensures.small,
 )
 
 pub returns-in-None : goal.returns-in-None

@@ -9,8 +9,8 @@ loop-b-init c = ap (λ (x : List ℕ). x ++ hex_line c.args.bytes.now) c.new-tex
 
 pub loop-b-preserved : goal.loop-b-preserved
 loop-b-preserved c =
-    write_more byte_hex c.args.bytes.now (string_bytes c.loop-b.text) (string_bytes c.add-byte.new.text) _ c.loop-b.b-index
-    c.loop-b-test.true c.in-ok-add-byte.ensures c.loop-b.invariant
+    write_more byte_hex c.args.bytes.now (string_bytes c.loop-b.text) (string_bytes c.add_byte.new.text) _ c.loop-b.b-index
+    c.loop-b-test.true c.in_ok-add_byte.ensures c.loop-b.invariant
 
 pub returns : goal.returns
 returns c =

@@ -8,8 +8,8 @@ loop-number-init c = refl
 
 pub loop-number-preserved : goal.loop-number-preserved
 loop-number-preserved c =
-    write_more spaced c.args.numbers.now (string_bytes c.loop-number.text) (string_bytes c.add-number.new.text) _
-    c.loop-number.number-index c.loop-number-test.true c.in-ok-add-number.ensures c.loop-number.invariant
+    write_more spaced c.args.numbers.now (string_bytes c.loop-number.text) (string_bytes c.add_number.new.text) _
+    c.loop-number.number-index c.loop-number-test.true c.in_ok-add_number.ensures c.loop-number.invariant
 
 pub returns : goal.returns
 returns c =

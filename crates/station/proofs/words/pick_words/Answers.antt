@@ -6,5 +6,5 @@ use Rattle.station.proofs.words.pick_words.Goals as goal
 
 pub returns : goal.returns
 returns c =
-    added (string_bytes c.in-ok-text.text) (string_bytes c.add-numbers.new.text) (codes "pick item ") (decimal c.args.item)
-    (codes " of") (pieces spaced c.args.stamps.now) c.in-ok-text.ensures.ok c.in-ok-add-numbers.ensures
+    added (string_bytes c.in_ok-text.text) (string_bytes c.add_numbers.new.text) (codes "pick item ") (decimal c.args.item)
+    (codes " of") (pieces spaced c.args.stamps.now) c.in_ok-text.ensures.ok c.in_ok-add_numbers.ensures

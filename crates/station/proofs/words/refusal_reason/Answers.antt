@@ -30,5 +30,5 @@ returns-in-8 c = sym (ap reason_of c.in-8.is)
 pub returns-in-9 : goal.returns-in-9
 returns-in-9 c = sym (ap reason_of c.in-9.is)
 
-pub returns-in-default : goal.returns-in-default
-returns-in-default c = no_case c.args.number _ _ _ _ _ _ _ _ _ _ (λ h. omega (arith, h))
+pub returns-in_default : goal.returns-in_default
+returns-in_default c = no_case c.args.number _ _ _ _ _ _ _ _ _ _ (λ h. omega (arith, h))
