@@ -1,5 +1,5 @@
 -- Whether a code is of a body: for any coding that keeps its law, and then for the item's kind.
-use Rattle.std.proofs.Common.{◌≡◌, ℕ, Bool, true, false, is_some, Some, None, Option, sym, refl, ap, ◌∙◌, subst, arith, rules}
+use Rattle.std.proofs.Common.{◌≡◌, ℕ, Bool, true, is_some, Some, None, Option, sym, refl, ap, subst, arith, rules}
 use Rattle.blend.specs.declared.item.Kind.{Kind}
 use Rattle.blend.specs.declared.item.Kind.TheVariants as kind
 use Rattle.blend.specs.declared.quantity.Quantity.{Quantity}

@@ -1,5 +1,5 @@
 -- The laws of the order of stamps. Whoever compares stamps cites these and never unfolds the definition.
-use Rattle.std.proofs.Common.{◌≡◌, ℕ, ◌<◌, ◌≤◌, Bool, true, false, cond, ltb, ◌⊎◌, refl, inl, inr, arith}
+use Rattle.std.proofs.Common.{◌≡◌, ℕ, ◌<◌, Bool, true, false, ltb, ◌⊎◌, refl, inl, inr, arith}
 use Rattle.blend.specs.Stamps.{later, StampOrder}
 
 pub never_itself : (a : ℕ) → later a a ≡ false

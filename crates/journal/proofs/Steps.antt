@@ -1,13 +1,13 @@
 -- The ghost fields of a journal as one record and back, and its calls that write.
-use Rattle.std.proofs.Common.{◌≡◌, ℕ, ◌+◌, ◌-◌, ◌*◌, ◌/◌, ◌<◌, ◌≤◌, true, List, length, drop, replicate, is_some, None, vec_items, vec_len, sym, ap, ◌∙◌, arith}
+use Rattle.std.proofs.Common.{◌≡◌, ℕ, ◌+◌, ◌/◌, ◌<◌, ◌≤◌, true, List, length, is_some, None, vec_items, vec_len, sym, ap, ◌∙◌, arith}
 use Rattle.std.specs.Vec.{with_items}
 use Rattle.std.proofs.lemmas.List.{with_items_is}
 use Rattle.blend.specs.Stamps.{later}
 use Rattle.journal.specs.declared.Journal.{Journal}
 use Rattle.journal.specs.declared.record.Record.{Record}
 use Rattle.journal.specs.declared.record.Record.TheVariants.{Put, Commit}
-use Rattle.journal.specs.Records.{records, used, appended, size}
-use Rattle.journal.specs.Held.{lookup, last_of, versions, Waits, NoBlank, LastsHeld}
+use Rattle.journal.specs.Records.{records, appended, size}
+use Rattle.journal.specs.Held.{lookup, last_of}
 use Rattle.journal.specs.Means.{bytes_view}
 use Rattle.journal.proofs.Writes.{Fits, length_appended}
 use Rattle.journal.proofs.Outcomes.{Kept, PutStep, put_step, put_room, CommitStep, commit_step, commit_room}

@@ -1,5 +1,5 @@
 -- The marks of the list rule and of the filter rule name what they were made from.
-use Rattle.std.specs.Prelude.{◌≡◌, ℕ, zero, suc, ◌/◌, ◌%◌, ◌^◌, ◌<◌, Bool, true, List, [], ◌∷◌, length, Decides, fold, bit_or, nat_eq, slice_index, refl}
+use Rattle.std.specs.Prelude.{◌≡◌, ℕ, zero, suc, ◌/◌, ◌%◌, ◌^◌, ◌<◌, Bool, true, List, [], ◌∷◌, length, fold, bit_or, nat_eq, slice_index, refl}
 use Rattle.std.proofs.Common.{ap, ◌∙◌, inl, inr, one-mul, arith}
 use Rattle.std.proofs.lemmas.Nat.{or_shr, or_mod, or_comm, shl-shr}
 use Rattle.std.proofs.lemmas.Bool.{eqb-true, eq-eqb, lt-ltb, and_from, or_left, or_right, cases_eq}

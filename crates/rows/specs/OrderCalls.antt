@@ -1,5 +1,5 @@
 -- Which calls a writer's row admits: the protocol's tests on the row alone.
-use Rattle.std.specs.Prelude.{ℕ, Bool, cond, not, [], ◌∷◌, length, is_some, Some, None, Ok, Err, Option, Result, nat_le}
+use Rattle.std.specs.Prelude.{ℕ, cond, not, [], ◌∷◌, length, is_some, Some, None, Ok, Err, Option, Result, nat_le}
 use Rattle.std.specs.Option.{option_map}
 use Rattle.blend.specs.Refusals.{Tests}
 use Rattle.protocol.specs.State.{OpenOrder, the_order}

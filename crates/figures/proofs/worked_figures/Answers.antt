@@ -1,4 +1,4 @@
-use Rattle.std.proofs.Common.{◌≡◌, ℕ, Bool, true, false, refl, ap, ◌∙◌, rules}
+use Rattle.std.proofs.Common.{◌≡◌, ℕ, Bool, refl, ap, ◌∙◌, rules}
 use Rattle.blend.specs.Stamps.{later, later_of}
 use Rattle.store.specs.Meaning.{View, Content, picked}
 use Rattle.store.specs.Outcomes.{CommitDone, one_if}

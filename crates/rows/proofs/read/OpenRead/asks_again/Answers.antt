@@ -1,4 +1,4 @@
-use Rattle.std.proofs.Common.{◌≡◌, ℕ, Bool, true, false, not, eqb, sym, ap, ◌∙◌}
+use Rattle.std.proofs.Common.{ℕ, not, eqb, sym, ◌∙◌}
 use Rattle.std.proofs.lemmas.Bool.{ne_eqb, eq-eqb, not_from_true, not_from_false}
 use Rattle.protocol.specs.Asks.{wanted, progress}
 use Rattle.rows.specs.Rows.{read_in}

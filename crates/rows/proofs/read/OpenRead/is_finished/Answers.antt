@@ -1,4 +1,4 @@
-use Rattle.std.proofs.Common.{◌≡◌, ℕ, Bool, true, false, not, sym, ap, ◌∙◌}
+use Rattle.std.proofs.Common.{ℕ, Bool, not, sym, ◌∙◌}
 use Rattle.std.proofs.lemmas.Bool.{not_from_true, not_from_false}
 use Rattle.protocol.specs.Asks.{due_second, progress}
 use Rattle.rows.specs.Rows.{read_in}

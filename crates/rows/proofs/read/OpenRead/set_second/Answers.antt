@@ -1,6 +1,4 @@
-use Rattle.std.proofs.Common.{◌≡◌, ℕ, ap, ◌∙◌, arith}
-use Rattle.store.specs.Meaning.{Version, blank}
-use Rattle.protocol.specs.Step.{later_version}
+use Rattle.std.proofs.Common.{arith}
 use Rattle.rows.proofs.Changed.{second_set}
 use Rattle.rows.proofs.read.OpenRead.set_second.Goals as goal
 

@@ -5,8 +5,7 @@ use Rattle.store.specs.Meaning.{Version}
 use Rattle.protocol.specs.Calls.{by_reader, second_ask}
 use Rattle.rows.specs.declared.fault.Fault.{Fault}
 use Rattle.protocol.specs.State.{OpenRead, the_read}
-use Rattle.protocol.specs.Refusals.{read_item}
-use Rattle.protocol.specs.Step.{second_version, second_asked, later_version}
+use Rattle.protocol.specs.Step.{second_asked, later_version}
 use Rattle.protocol.proofs.Intro.{second_in}
 use Rattle.rows.specs.Rules.{rule_of}
 use Rattle.service.specs.Meaning.{meaning}
