@@ -3,10 +3,11 @@
 
 usage: python3 tools/respell.py        at the top of the repository, once, after the kit's own port script
 
-Every name that a file of specs/ or proofs/ declares, and that still has a dash or a prime in the older style, is respelled in all
-.rt and .antt files and in the must-fail edits: a type or a fact (it begins with a capital) in camel case, every other name in snake
-case, a prime as an apostrophe. Names that Rattle makes of the code (goals, steps, branches) are not declared here and stay, as do
-functions of src/, comments, strings, inputs and outputs. Two names that would be one are said and left; a name that meets a function, a module or a field of its new spelling is said.
+Every name that a file of specs/ or proofs/ declares, or that an import gives, and that still has a dash or a prime in the older style,
+is respelled in all .rt and .antt files and in the must-fail edits: a type or a fact (it begins with a capital) in camel case, every
+other name in snake case, a prime as an apostrophe. Names that Rattle makes of the code (goals, steps, branches) are not declared here
+and stay, as do functions of src/, comments, strings, inputs and outputs. Two names that would be one are said and left; a name that
+meets a function, a module or a field of its new spelling is said.
 """
 
 import os
@@ -16,6 +17,7 @@ import sys
 SIGNATURE = re.compile(r"^(?:(?:pub|abbrev|unfoldable)\s+)*([^\s(){}\[\].,;:]+(?:\s+[^\s(){}\[\].,;:]+)*)\s+:(?:\s|$)")
 HEAD = re.compile(r"^\s*(?:pub\s+)?(?:data|record)\s+([^\s(){}\[\].,;:=]+)\s+[:({]")
 MEMBER = re.compile(r"^\s+(?:(?:pub|abbrev|unfoldable)\s+)*([^\s(){}\[\].,;:]+)\s*:\s")
+ALIAS = re.compile(r"\bas ([A-Za-z]+(?:-[A-Za-z0-9]+)+)[,}]")
 MADE = re.compile(r":\s*(?:goal|goals|need|needs)\.")
 WORD = re.compile(r"[^\s(){}\[\].,;«»⌜⌝&*]+")
 WORDS_THAT_DECLARE = {"pub", "abbrev", "unfoldable", "data", "record", "use", "mod", "ruleset", "unfolding"}
@@ -52,9 +54,11 @@ def declared(text):
 
 def respelled(name):
     name = name.replace("′", "'")
-    if not re.fullmatch(r"[A-Za-z][A-Za-z0-9_'-]*", name) or "-" not in name:
+    if not re.fullmatch(r"[A-Za-z][A-Za-z0-9_'-]*", name):
         return name
-    parts = [p for p in name.split("-") if p]
+    parts = [p for p in re.split(r"[-_]" if name[0].isupper() else "-", name) if p]
+    if len(parts) < 2:
+        return name
     if name[0].isupper():
         return "".join(p[0].upper() + p[1:] for p in parts)
     return "_".join(parts)
@@ -97,8 +101,9 @@ def comment_of(path):
 
 def main():
     names = {}
-    for path in files((".antt",)):
-        for name in declared(text_of(path)):
+    for path in files((".antt", ".rt")):
+        text = text_of(path)
+        for name in [*(declared(text) if path.endswith(".antt") else []), *ALIAS.findall(text)]:
             new = respelled(name)
             if new != name:
                 names[name] = new

@@ -2,7 +2,7 @@
 ghost use Rattle.std.specs.Prelude.{◌≡◌};
 ghost use Rattle.journal.specs.Held.{better};
 ghost use Rattle.journal.specs.Means.{journal_view};
-ghost use Rattle.std.proofs.Common.{rules, arith};
+ghost use Rattle.std.proofs.Common.{rules};
 
 use super::Journal;
 use super::append::append;
@@ -13,7 +13,7 @@ use store::{Store, StoreFault, later_version};
 impl Store for Journal {
     ghost view = { journal_view };
 
-    ghost last_held = { first_of (Prim.search rules, Prim.grind (arith, Self.row.coded.inj)) };
+    ghost last_held = { Prim.search rules };
 
     fn put(&mut self, item: u8, stamp: u32, code: u64, mark: u64) -> Result<bool, StoreFault> {
         if item == 0 {

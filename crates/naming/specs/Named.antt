@@ -1,11 +1,8 @@
 -- The marks of the list rule and of the filter rule name what they were made from.
-use Rattle.std.specs.Prelude.{◌≡◌, ℕ, zero, suc, ◌/◌, ◌%◌, ◌^◌, ◌<◌, Bool, true, List, [], ◌∷◌, length, fold, bit_or, nat_eq, slice_index, refl}
+use Rattle.std.specs.Prelude.{◌≡◌, ℕ, zero, suc, ◌/◌, ◌%◌, ◌^◌, ◌<◌, true, List, [], ◌∷◌, length, fold, bit_or, slice_index, refl}
 use Rattle.std.proofs.Common.{ap, ◌∙◌, inl, inr, one-mul, arith}
 use Rattle.std.proofs.lemmas.Nat.{or_shr, or_mod, or_comm, shl-shr}
 use Rattle.std.proofs.lemmas.Bool.{eqb-true, eq-eqb, lt-ltb, and_from, or_left, or_right, cases_eq}
-use Rattle.std.specs.List.{IsAnyAnswer}
-use Rattle.std.proofs.lemmas.List.Elements.{contains_decides}
-use Rattle.std.proofs.lemmas.Bool.Decides.{same_from_decides, Decides-by_or, Decides-eqb}
 use Rattle.naming.specs.Marks.{has_bit, bits_of, filter_mark, filter_names, has, bytes_of, list_mark, list_names}
 
 -- a bit that is set in a is set in `a | b`
@@ -51,12 +48,6 @@ fold_sets bit sets (x ∷ xs) m (suc k) h = fold_sets bit sets xs (step m x) k h
 pub filter_complete : (xs : List ℕ) (k : ℕ) → 0 < slice_index xs k → filter_names (filter_mark xs) (slice_index xs k) ≡ true
 filter_complete xs k h =
     and_from _ _ (lt-ltb 0 (slice_index xs k) h) (and_from _ _ (fold_sets (λ x. x % 64) low xs 0 k h) (fold_sets (λ x. x / 4) high xs 0 k h))
-
--- what `contains` answers
-pub has_is : (i : ℕ) (xs : List ℕ) (r : Bool) → IsAnyAnswer (λ y t. nat_eq y i ≡ t) xs r → r ≡ has i xs
-has_is i xs r h =
-    same_from_decides r (has i xs) (contains_decides nat_eq Decides-eqb xs i r h)
-    (Decides-by_or (λ x. nat_eq x i) (λ x. x ≡ i) (has i) (λ x. Decides-eqb x i) refl (λ _ _. refl) xs)
 
 has_at : (xs : List ℕ) (k : ℕ) → 0 < slice_index xs k → has (slice_index xs k) xs ≡ true
 has_at [] k h = absurd (omega arith)

@@ -1,6 +1,6 @@
 // Which asks of a read are due.
 ghost use Rattle.std.specs.Prelude.{◌≡◌};
-ghost use Rattle.protocol.specs.Asks.{progress, stamp_in, mark_in, wanted as wanted-stamp, all_made, asks_again, due_second, finished, asks_made, eight};
+ghost use Rattle.protocol.specs.Asks.{progress, stamp_in, mark_in, wanted as wanted_stamp, all_made, asks_again, due_second, finished, asks_made, eight};
 ghost use Rattle.rows.specs.Rows.{first_at, read_in};
 ghost use Rattle.rows.specs.Rules.{rule_of};
 
@@ -25,7 +25,7 @@ impl OpenRead {
 
     // The stamp that the place p wants from the place q; 0 where it wants none.
     fn wants<N: Naming>(&self, p: u8, q: u8) -> u32
-        ensures { result ≡ wanted-stamp (rule_of N.Naming.marks N.Naming.named N.Naming.twice) (progress (read_in self.now)) p q }
+        ensures { result ≡ wanted_stamp (rule_of N.Naming.marks N.Naming.named N.Naming.twice) (progress (read_in self.now)) p q }
     {
         if q >= self.items.len() {
             return 0;
@@ -44,7 +44,7 @@ impl OpenRead {
 
     // What the place wants from each place.
     pub fn wanted<N: Naming>(&self, p: u8) -> [u32; 8]
-        ensures { result ≡ eight (wanted-stamp (rule_of N.Naming.marks N.Naming.named N.Naming.twice) (progress (read_in self.now)) p) }
+        ensures { result ≡ eight (wanted_stamp (rule_of N.Naming.marks N.Naming.named N.Naming.twice) (progress (read_in self.now)) p) }
     {
         [
             self.wants::<N>(p, 0),

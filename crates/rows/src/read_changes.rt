@@ -1,7 +1,7 @@
 // How the calls of its reader change a row.
 ghost use Rattle.std.specs.Prelude.{◌≡◌, ◌<◌, ◌≤◌, length, Some, None};
 ghost use Rattle.protocol.specs.Step.{fresh_read, first_asked, second_asked, later_version};
-ghost use Rattle.protocol.specs.Asks.{progress, eight, wanted as wanted-stamp, asks_made};
+ghost use Rattle.protocol.specs.Asks.{progress, eight, wanted as wanted_stamp, asks_made};
 ghost use Rattle.protocol.specs.State.{the_read};
 ghost use Rattle.rows.specs.Rules.{rule_of};
 ghost use Rattle.protocol.specs.Refusals.{read_item};
@@ -71,7 +71,7 @@ impl ReadRow {
 
     // The stamps that a place wants from each place; all 0 without a read.
     pub fn wanted<N: Naming>(&self, place: u8) -> [u32; 8]
-        ensures { result ≡ eight (wanted-stamp (rule_of N.Naming.marks N.Naming.named N.Naming.twice) (progress (the_read (reading self.now))) place) }
+        ensures { result ≡ eight (wanted_stamp (rule_of N.Naming.marks N.Naming.named N.Naming.twice) (progress (the_read (reading self.now))) place) }
     {
         match self.current {
             Some(read) => read.wanted::<N>(place),

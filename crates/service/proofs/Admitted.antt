@@ -49,12 +49,12 @@ may_commit o k e =
       not-false (all_prepared (the_order o)) z.1.1.0,
     )
 
-pub record Read_in (o : Option OpenRead) (p : ℕ) : Type 0 where
+pub record ReadIn (o : Option OpenRead) (p : ℕ) : Type 0 where
   pub there : o ≡ Some (the_read o)
   pub within : p < length (the_read o).items
 
 module _ (ν : Naming) (o : Option OpenRead) (p : ℕ) where
-  pub may_second : first_of (read_tests ν o (Second p)) ≡ None → Read_in o p
+  pub may_second : first_of (read_tests ν o (Second p)) ≡ None → ReadIn o p
   may_second e =
       let z = clear (read_tests ν o (Second p)) e in
       record { there = read_there o z.0; within = leb-false (length (the_read o).items) p z.1.0 }

@@ -3,7 +3,7 @@ ghost use Rattle.std.specs.Prelude.{◌≡◌, ℕ, IfOk, slice_index};
 ghost use Rattle.store.specs.Room.{Fresh};
 ghost use Rattle.table.specs.Rows.{lookup};
 ghost use Rattle.table.specs.Means.{table_view};
-ghost use Rattle.std.proofs.Common.{rules, arith};
+ghost use Rattle.std.proofs.Common.{rules};
 
 use super::{Row, Table};
 use blend::is_later;
@@ -46,7 +46,7 @@ fn find(rows: &[Row], item: u8, stamp: u32) -> Option<(u64, u64)>
 impl Store for Table {
     ghost view = { table_view };
 
-    ghost last_held = { first_of (Prim.search rules, Prim.grind (arith, Self.row.coded.inj)) };
+    ghost last_held = { Prim.search rules };
 
     fn put(&mut self, item: u8, stamp: u32, code: u64, mark: u64) -> Result<bool, StoreFault> {
         if item == 0 {

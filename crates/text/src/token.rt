@@ -1,7 +1,7 @@
 // A line cut at its blanks into tokens.
 ghost use Rattle.std.specs.Prelude.{◌≡◌, ◌++◌, is_ok, IfOk, if◌then◌else◌, slice_index_or};
 ghost use Rattle.text.specs.declared.token.Token.TheVariants.{Other};
-ghost use Rattle.text.specs.Tokens.{is_blank as blank-byte, token_at, token_if, tokens_of, number_in, is_word, field_at};
+ghost use Rattle.text.specs.Tokens.{is_blank as blank_byte, token_at, token_if, tokens_of, number_in, is_word, field_at};
 
 use super::number::number_of;
 use super::word::Word;
@@ -16,7 +16,7 @@ pub enum Token {
 
 // Space, tab, carriage return.
 pub fn is_blank(b: u8) -> bool
-    ensures { result ≡ blank-byte b }
+    ensures { result ≡ blank_byte b }
 {
     b == 32 || b == 9 || b == 13
 }

@@ -1,6 +1,6 @@
 use Rattle.std.proofs.Common.{ap, ◌∙◌}
 use Rattle.naming.specs.Marks.{has}
-use Rattle.naming.specs.Named.{has_is}
+use Rattle.naming.proofs.Named.{has_is}
 use Rattle.naming.proofs.list.holds.Goals as goal
 
 pub returns : goal.returns
