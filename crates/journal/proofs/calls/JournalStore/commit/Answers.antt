@@ -3,7 +3,7 @@ use Rattle.blend.specs.Stamps.{later}
 use Rattle.journal.specs.Records.{records}
 use Rattle.journal.specs.Held.{lookup, last_of}
 use Rattle.journal.proofs.Outcomes.{commit_room}
-use Rattle.journal.proofs.Steps.{kept_of, CommitOf, commit_at}
+use Rattle.journal.proofs.Steps.{kept_of, facts, CommitOf, commit_at}
 use Rattle.journal.proofs.calls.JournalStore.commit.Goals as goal
 use Rattle.journal.proofs.calls.JournalStore.commit.Goals.{After-deref_mut, After-size}
 
@@ -32,18 +32,7 @@ step c =
     (held (goal.at.invariant_of-self c).After-deref_mut) (up (goal.at.invariant_of-self c).After-deref_mut) c.append.ensures
 
 pub invariant_of-self : goal.invariant_of-self
-invariant_of-self c =
-    let k = (step c).kept in
-    record {
-      within = k.within;
-      ends = k.ends;
-      clear = k.clear;
-      counted = k.counted;
-      room = k.room;
-      waits = k.waits;
-      blank = k.blank;
-      committed = k.committed;
-    }
+invariant_of-self c = facts (step c).kept
 
 pub returns : goal.returns
 returns c = (step (goal.at.returns c).After-size).done

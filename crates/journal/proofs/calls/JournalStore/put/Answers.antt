@@ -3,7 +3,7 @@ use Rattle.journal.specs.Records.{records}
 use Rattle.journal.specs.Held.{lookup}
 use Rattle.journal.specs.Means.{journal_view}
 use Rattle.journal.proofs.Outcomes.{put_room}
-use Rattle.journal.proofs.Steps.{kept_of, PutOf, put_at}
+use Rattle.journal.proofs.Steps.{kept_of, facts, PutOf, put_at}
 use Rattle.journal.proofs.calls.JournalStore.put.Goals as goal
 use Rattle.journal.proofs.calls.JournalStore.put.Goals.{After-size}
 
@@ -28,18 +28,7 @@ step c =
     (omega arith, (omega arith, (omega arith, (omega arith, tt)))) (omega arith) (omega arith) none room c.append.ensures
 
 pub invariant_of-self : goal.invariant_of-self
-invariant_of-self c =
-    let k = (step c).kept in
-    record {
-      within = k.within;
-      ends = k.ends;
-      clear = k.clear;
-      counted = k.counted;
-      room = k.room;
-      waits = k.waits;
-      blank = k.blank;
-      committed = k.committed;
-    }
+invariant_of-self c = facts (step c).kept
 
 pub returns-else-space-eq0 : goal.returns-else-space-eq0
 returns-else-space-eq0 c = (step (goal.at.returns-else-space-eq0 c).After-size).done
