@@ -2,9 +2,6 @@
 use Rattle.std.proofs.Common.{◌≡◌, ℕ, Bool, true, is_some, Some, None, Option, sym, refl, ap, subst, arith, rules}
 use Rattle.blend.specs.declared.item.Kind.{Kind}
 use Rattle.blend.specs.declared.item.Kind.TheVariants as kind
-use Rattle.blend.specs.declared.quantity.Quantity.{Quantity}
-use Rattle.blend.specs.declared.line_up.LineUp.{LineUp}
-use Rattle.blend.specs.declared.card.TankCard.{TankCard}
 use Rattle.blend.specs.Items.{kind_at}
 use Rattle.blend.specs.Codes.{quantity_code, quantity_at, line_up_code, line_up_at, card_code, card_at}
 use Rattle.blend.specs.Fitting.{fits_kind, fits_by, fits, SomeBody, OfABody}
@@ -12,7 +9,7 @@ use Rattle.blend.specs.Fitting.{fits_kind, fits_by, fits, SomeBody, OfABody}
 module _ {B : Type 0} (codes : B → Option ℕ) (decodes : ℕ → Option B) where
   found : (c : ℕ) (o : Option B) → decodes c ≡ o → ((b : B) → decodes c ≡ Some b → codes b ≡ Some c) →
       is_some o ≡ true → (b : B) × (codes b ≡ Some c)
-  found c None e back h = let z : ◌≡◌ {A = ℕ} 0 1 = cc in let no_way : ⊥ = omega arith in elim no_way [ ]
+  found c None e back h = cc
   found c (Some b) e back h = (b, back b e)
 
   -- a code that decodes is some body's
@@ -25,36 +22,18 @@ module _ {B : Type 0} (codes : B → Option ℕ) (decodes : ℕ → Option B) wh
       (c : ℕ) → ((b : B) × (codes b ≡ Some c)) → is_some (decodes c) ≡ true
   decodes_always forth c h = ap is_some (forth c h.0 h.1)
 
-pub quantity_back : (c : ℕ) (b : Quantity) → quantity_at c ≡ Some b → quantity_code b ≡ Some c
-quantity_back c b e = grind arith
-
-pub quantity_forth : (c : ℕ) (b : Quantity) → quantity_code b ≡ Some c → quantity_at c ≡ Some b
-quantity_forth c b e = grind arith
-
-pub line_up_back : (c : ℕ) (b : LineUp) → line_up_at c ≡ Some b → line_up_code b ≡ Some c
-line_up_back c b e = grind arith
-
-pub line_up_forth : (c : ℕ) (b : LineUp) → line_up_code b ≡ Some c → line_up_at c ≡ Some b
-line_up_forth c b e = search rules
-
-pub card_back : (c : ℕ) (b : TankCard) → card_at c ≡ Some b → card_code b ≡ Some c
-card_back c b e = grind arith
-
-pub card_forth : (c : ℕ) (b : TankCard) → card_code b ≡ Some c → card_at c ≡ Some b
-card_forth c b e = grind arith
-
 kind_only : (k : Kind) (c : ℕ) → fits_kind k c ≡ true → SomeBody (Some k) c
-kind_only kind.Quantity c h = decodes_only quantity_code quantity_at quantity_back c h
-kind_only kind.LineUp c h = decodes_only line_up_code line_up_at line_up_back c h
-kind_only kind.TankCard c h = decodes_only card_code card_at card_back c h
+kind_only kind.Quantity c h = decodes_only quantity_code quantity_at (λ c b e. grind arith) c h
+kind_only kind.LineUp c h = decodes_only line_up_code line_up_at (λ c b e. search rules) c h
+kind_only kind.TankCard c h = decodes_only card_code card_at (λ c b e. grind arith) c h
 
 kind_always : (k : Kind) (c : ℕ) → SomeBody (Some k) c → fits_kind k c ≡ true
-kind_always kind.Quantity c h = decodes_always quantity_code quantity_at quantity_forth c h
-kind_always kind.LineUp c h = decodes_always line_up_code line_up_at line_up_forth c h
-kind_always kind.TankCard c h = decodes_always card_code card_at card_forth c h
+kind_always kind.Quantity c h = decodes_always quantity_code quantity_at (λ c b e. grind arith) c h
+kind_always kind.LineUp c h = decodes_always line_up_code line_up_at (λ c b e. search rules) c h
+kind_always kind.TankCard c h = decodes_always card_code card_at (λ c b e. grind arith) c h
 
 fits_only : (k : Option Kind) (c : ℕ) → fits_by k c ≡ true → SomeBody k c
-fits_only None c h = let z : ◌≡◌ {A = ℕ} 0 1 = cc in omega arith
+fits_only None c h = cc
 fits_only (Some k) c h = kind_only k c h
 
 fits_always : (k : Option Kind) (c : ℕ) → SomeBody k c → fits_by k c ≡ true

@@ -4,3 +4,4 @@ pub mod Lists
 pub mod Stamps
 pub mod Codes
 pub mod Fitting
+pub mod Texts

@@ -58,13 +58,11 @@ impl Kind {
 pub fn fits_item(item: u8, code: u64) -> bool
     ensures { result ≡ fits item code }
 {
-    match kind_of(item) {
-        None => false,
-        Some(kind) => kind.takes(code),
-    }
+    kind_of(item).is_some_and(|kind| kind.takes(code))
 }
 
 // The same answer by its meaning: yes exactly where some body of the item's kind has the code.
+#[tactic(auto, using(crate::proofs::Coding::fits_means))]
 pub fn is_some_body(item: u8, code: u64) -> bool
     ensures { OfABody item code result }
 {

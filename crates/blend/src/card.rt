@@ -1,5 +1,7 @@
 // A tank card: a tank and its limit in litres.
+ghost use Rattle.std.specs.Prelude.{Some};
 ghost use Rattle.blend.specs.Codes.{card_code, card_at};
+ghost use Rattle.blend.specs.Texts.{card_words};
 ghost use Rattle.blend.specs.declared.item.Kind.TheVariants as kind;
 ghost use Rattle.std.proofs.Common.{rules};
 
@@ -7,15 +9,16 @@ use super::body::Body;
 use super::item::Kind;
 use super::quantity::MOST_LITRES;
 use super::refusal::Refusal;
+use std::fmt;
 
-#[derive(Clone, Copy)]
+#[derive(Clone, Copy, PartialEq, Eq, Debug)]
 pub struct TankCard {
     pub tank: u8,
     pub limit: u32,
 }
 
 // 2^54: the tank stands above the limit's 54 bits.
-const TANK_UNIT: u64 = 18_014_398_509_481_984;
+const TANK_UNIT: u64 = 1 << 54;
 
 impl Body for TankCard {
     ghost kinds = { kind.TankCard };
@@ -40,14 +43,20 @@ impl Body for TankCard {
     }
 
     fn decode(code: u64) -> Option<TankCard> {
-        let tank = code / TANK_UNIT;
-        let limit = code % TANK_UNIT;
-        if tank == 0 || tank > 255 || limit > u64::from(MOST_LITRES) {
+        let tank = u8::try_from(code / TANK_UNIT).ok()?;
+        let limit = u32::try_from(code % TANK_UNIT).ok()?;
+        if tank == 0 || limit > MOST_LITRES {
             return None;
         }
-        Some(TankCard {
-            tank: tank as u8,
-            limit: limit as u32,
-        })
+        Some(TankCard { tank, limit })
+    }
+}
+
+impl fmt::Display for TankCard {
+    ghost output = { λ card. Some (card_words (Some card)) };
+
+    fn fmt<W: fmt::Write>(&self, f: &mut fmt::Formatter<W>) -> fmt::Result {
+        let TankCard { tank, limit } = *self;
+        write!(f, "tank {tank} limit {limit}")
     }
 }

@@ -1,13 +1,16 @@
 // A line-up: a source tank, a different destination tank, and 16 valve bits.
+ghost use Rattle.std.specs.Prelude.{Some};
 ghost use Rattle.blend.specs.Codes.{line_up_code, line_up_at};
+ghost use Rattle.blend.specs.Texts.{line_up_words};
 ghost use Rattle.blend.specs.declared.item.Kind.TheVariants as kind;
 ghost use Rattle.std.proofs.Common.{rules};
 
 use super::body::Body;
 use super::item::Kind;
 use super::refusal::Refusal;
+use std::fmt;
 
-#[derive(Clone, Copy)]
+#[derive(Clone, Copy, PartialEq, Eq, Debug)]
 pub struct LineUp {
     pub source: u8,
     pub destination: u8,
@@ -42,15 +45,30 @@ impl Body for LineUp {
 
     fn decode(code: u64) -> Option<LineUp> {
         let tanks = code / 65536;
-        let source = tanks / 256;
-        let destination = tanks % 256;
-        if source == 0 || source > 255 || destination == 0 || source == destination {
+        let source = u8::try_from(tanks / 256).ok()?;
+        // The check proves that no bit is lost: `try_from` would add a case that cannot come.
+        let destination = (tanks % 256) as u8;
+        if source == 0 || destination == 0 || source == destination {
             return None;
         }
         Some(LineUp {
-            source: source as u8,
-            destination: destination as u8,
+            source,
+            destination,
+            // The check proves that no bit is lost: `try_from` would add a case that cannot come.
             valves: (code % 65536) as u16,
         })
+    }
+}
+
+impl fmt::Display for LineUp {
+    ghost output = { λ line_up. Some (line_up_words (Some line_up)) };
+
+    fn fmt<W: fmt::Write>(&self, f: &mut fmt::Formatter<W>) -> fmt::Result {
+        let LineUp {
+            source,
+            destination,
+            valves,
+        } = *self;
+        write!(f, "from {source} to {destination} valves {valves}")
     }
 }

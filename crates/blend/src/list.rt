@@ -6,10 +6,5 @@ ghost use Rattle.blend.specs.Lists.{has};
 pub fn has_item(items: &[u8], item: u8) -> bool
     ensures { result ≡ has item items.now }
 {
-    for x in items {
-        if *x == item {
-            return true;
-        }
-    }
-    false
+    items.contains(&item)
 }

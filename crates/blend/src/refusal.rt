@@ -2,25 +2,19 @@
 ghost use Rattle.std.specs.Prelude.{◌≡◌};
 ghost use Rattle.blend.specs.Refusals.{number_of};
 
-#[derive(Clone, Copy)]
+#[derive(Clone, Copy, PartialEq, Eq, Debug)]
 pub enum Refusal {
-    Writer,
-    Sequence,
-    List,
-    Item,
-    NoBody,
+    Writer = 10,
+    Sequence = 12,
+    List = 13,
+    Item = 14,
+    NoBody = 15,
 }
 
 impl Refusal {
     pub fn number(self) -> u8
         ensures { result ≡ number_of self }
     {
-        match self {
-            Refusal::Writer => 10,
-            Refusal::Sequence => 12,
-            Refusal::List => 13,
-            Refusal::Item => 14,
-            Refusal::NoBody => 15,
-        }
+        self as u8
     }
 }

@@ -1,5 +1,5 @@
 // A stamp is a sequence and a writer in 32 bits. Stamp 0 is the blank version's, and no order has it.
-ghost use Rattle.std.specs.Prelude.{◌≡◌, ◌/◌, ◌%◌, nat_lt};
+ghost use Rattle.std.specs.Prelude.{◌≡◌, ◌/◌, ◌%◌};
 ghost use Rattle.blend.specs.Stamps.{stamped, ReadsBack, later, later_of, StampOrder};
 
 use super::refusal::Refusal;
@@ -33,22 +33,18 @@ pub fn sequence_of(stamp: u32) -> u32
 pub fn writer_of(stamp: u32) -> u8
     ensures { result ≡ stamp % 16 }
 {
+    // The check proves that no bit is lost: `try_from` would add a case that cannot come.
     (stamp % 16) as u8
-}
-
-fn exceeds(a: u32, b: u32) -> bool
-    ensures { result ≡ nat_lt b a }
-{
-    a > b
 }
 
 // Whether the first stamp is later than the second: the one place that compares stamps. The order is strict and total, and stamp 0 comes
 // first.
+#[tactic(auto, using(crate::proofs::Order::stamp_order), unfolding(crate::specs::Stamps::later))]
 pub fn is_later(a: u32, b: u32) -> bool
     ensures value { result ≡ later a b }
     ensures order { StampOrder later }
 {
-    exceeds(a, b)
+    a > b
 }
 
 // The later of two stamps.

@@ -2,15 +2,17 @@
 
 #![tactic(auto)]
 
+mod lines;
 mod reports;
 mod scripts;
 mod sheets;
 mod sites;
 mod stations;
+mod words;
 
 use anyhow::anyhow;
-use scripts::{Rules, rules_of};
-use sites::{Layout, layout_of};
+use scripts::Rules;
+use sites::Layout;
 use std::{env, fs, io};
 
 // What the next word of the command line is.
@@ -73,20 +75,6 @@ fn command_of(word: &str) -> Option<Mode> {
     }
 }
 
-fn layout_in(word: &str) -> anyhow::Result<Layout> {
-    match layout_of(word) {
-        Some(layout) => Ok(layout),
-        None => Err(anyhow!("a layout is table, journal or pile")),
-    }
-}
-
-fn rules_in(word: &str) -> anyhow::Result<Rules> {
-    match rules_of(word) {
-        Some(rules) => Ok(rules),
-        None => Err(anyhow!("a rule is list, stamp, filter or all")),
-    }
-}
-
 // Takes one word: run LAYOUT RULE INPUT.., sheet INPUT.. or station LAYOUT INPUT.., as often as wanted.
 fn take(rt: &HostRuntime, mode: Mode, word: &str) -> anyhow::Result<Mode> {
     if let Some(command) = command_of(word) {
@@ -96,9 +84,9 @@ fn take(rt: &HostRuntime, mode: Mode, word: &str) -> anyhow::Result<Mode> {
         Mode::Start => return Err(anyhow!(
             "usage: bohlinu [run LAYOUT RULE INPUT..] [sheet INPUT..] [station LAYOUT INPUT..] .."
         )),
-        Mode::Script => return Ok(Mode::Ruling(layout_in(word)?)),
-        Mode::Ruling(layout) => return Ok(Mode::Playing(layout, rules_in(word)?)),
-        Mode::Station => return Ok(Mode::Serving(layout_in(word)?)),
+        Mode::Script => return Ok(Mode::Ruling(word.parse()?)),
+        Mode::Ruling(layout) => return Ok(Mode::Playing(layout, word.parse()?)),
+        Mode::Station => return Ok(Mode::Serving(word.parse()?)),
         Mode::Playing(layout, rules) => play_script(rt, layout, rules, word)?,
         Mode::Sheet => check_sheet(rt, word)?,
         Mode::Serving(layout) => serve_station(rt, layout, word)?,
@@ -108,12 +96,10 @@ fn take(rt: &HostRuntime, mode: Mode, word: &str) -> anyhow::Result<Mode> {
 
 fn run(rt: &HostRuntime) -> anyhow::Result<()> {
     let mut mode = Mode::Start;
-    let mut words = 0u32;
     for word in env::args(rt)?.skip(1) {
         mode = take(rt, mode, word.as_str())?;
-        words = words.saturating_add(1);
     }
-    if words == 0 {
+    if matches!(mode, Mode::Start) {
         play_script(rt, Layout::Layered, Rules::All, "example")?;
         check_sheet(rt, "example")?;
         serve_station(rt, Layout::Layered, "example")?;

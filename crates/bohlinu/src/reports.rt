@@ -1,228 +1,225 @@
 // What the calls of a script came to: each answer, the reads item by item and as taken, the asks, and what is still open.
+use super::scripts::Script;
 use blend::{is_later, kind_of};
 use runs::{Answer, Call};
-use script::{answer_text, call_text};
-use sheet::{body_text, kind_text};
+use sheet::{Entry, EntryBody};
+use std::alloc::{AllocError, Global};
+use std::collections::{BTreeMap, BTreeSet};
 
-// The open orders and reads, and the items of each read.
-#[derive(Clone, Copy)]
-struct Track {
-    orders: [bool; 16],
-    reads: [bool; 16],
-    items: [[u8; 8]; 16],
+// The writers with an open order, and the items of each open read by its reader.
+#[derive(Drop)]
+struct Open<'a> {
+    orders: BTreeSet<u8>,
+    reads: BTreeMap<u8, &'a [u8]>,
 }
 
-fn set(flags: &mut [bool; 16], at: u8, flag: bool) {
-    let i = usize::from(at);
-    if i < 16 {
-        flags[i] = flag;
-    }
-}
-
-fn first_eight(items: &[u8]) -> [u8; 8] {
-    let mut eight = [0; 8];
-    for (place, item) in items.iter().enumerate() {
-        if place < 8 {
-            eight[place] = *item;
-        }
-    }
-    eight
-}
-
-impl Track {
-    fn new() -> Track {
-        Track {
-            orders: [false; 16],
-            reads: [false; 16],
-            items: [[0; 8]; 16],
-        }
-    }
-
+impl<'a> Open<'a> {
     // The call was accepted.
-    fn accept(&mut self, call: &Call) {
+    fn accept(&mut self, call: &'a Call) -> Result<(), AllocError> {
         match call {
-            Call::File { writer, .. } => set(&mut self.orders, *writer, true),
-            Call::Close { writer } => set(&mut self.orders, *writer, false),
-            Call::Withdraw { writer } => set(&mut self.orders, *writer, false),
-            Call::Open { reader, items } => self.open(*reader, items.as_slice()),
-            Call::Release { reader } => set(&mut self.reads, *reader, false),
+            Call::File { writer, .. } => {
+                self.orders.insert(*writer)?;
+            }
+            Call::Close { writer } | Call::Withdraw { writer } => {
+                self.orders.remove(writer);
+            }
+            Call::Open { reader, items } => {
+                self.reads.insert(*reader, items.as_slice())?;
+            }
+            Call::Release { reader } => {
+                self.reads.remove(reader);
+            }
             _ => {}
         }
+        Ok(())
     }
 
-    fn open(&mut self, reader: u8, items: &[u8]) {
-        set(&mut self.reads, reader, true);
-        let i = usize::from(reader);
-        if i < 16 {
-            self.items[i] = first_eight(items);
-        }
-    }
-
-    // The item at a place of a read, 0 for none.
-    fn item(&self, reader: u8, place: u8) -> u8 {
-        let i = usize::from(reader);
-        let k = usize::from(place);
-        if i < 16 && k < 8 { self.items[i][k] } else { 0 }
-    }
-}
-
-fn is_refused(answer: &Answer) -> bool {
-    match answer {
-        Answer::Refused(_) => true,
-        Answer::Number(_) => false,
-        Answer::Shown { .. } => false,
-    }
-}
-
-// The code of an item in a filed list.
-fn code_at(items: &[u8], codes: &[u64], item: u8) -> Option<u64> {
-    for (i, code) in items.iter().zip(codes.iter()) {
-        if *i == item {
-            return Some(*code);
-        }
-    }
-    None
-}
-
-// The code that an order of a stamp was filed with for an item.
-fn code_filed(calls: &[Call], answers: &[Answer], stamp: u32, item: u8) -> Option<u64> {
-    for (call, answer) in calls.iter().zip(answers.iter()) {
-        if let (Call::File { items, codes, .. }, Answer::Number(n)) = (call, answer) {
-            if *n == stamp {
-                return code_at(items.as_slice(), codes.as_slice(), item);
+    // The item that a first ask or a take is about.
+    fn item(&self, call: &Call) -> Option<u8> {
+        match call {
+            Call::First { reader, place } | Call::Take { reader, place } => {
+                self.reads.get(reader)?.get(usize::from(*place)).copied()
             }
+            _ => None,
         }
     }
-    None
 }
 
-fn show(rt: &HostRuntime, item: u8, stamp: u32, code: Option<u64>) -> anyhow::Result<()> {
-    match code {
-        Some(code) => {
-            let body = body_text(rt.alloc(), item, code)?;
-            let words = body.as_str();
-            println!(rt; "  item {item} of stamp {stamp}: {words}")?;
+// A call of a script with its line, its answer, and the item that it was about, if it was a first ask or a take.
+#[derive(Clone, Copy)]
+struct Played<'a> {
+    line: usize,
+    call: &'a Call,
+    answer: Answer,
+    item: Option<u8>,
+}
+
+// A version that a read showed, 0 for no stamp.
+#[derive(Clone, Copy)]
+struct Shown {
+    item: u8,
+    stamp: u32,
+}
+
+impl Shown {
+    fn print(self, rt: &HostRuntime, code: Option<u64>) -> anyhow::Result<()> {
+        let Shown { item, stamp } = self;
+        match code {
+            Some(code) => {
+                let body = EntryBody(Entry { item, code });
+                println!(rt; "  item {item} of stamp {stamp}: {body}")?;
+            }
+            None => println!(rt; "  item {item}: nothing")?,
         }
-        None => println!(rt; "  item {item}: nothing")?,
+        Ok(())
     }
-    Ok(())
-}
-
-fn print_lines(
-    rt: &HostRuntime,
-    calls: &[Call],
-    lines: &[usize],
-    answers: &[Answer],
-) -> anyhow::Result<()> {
-    for ((call, line), answer) in calls.iter().zip(lines.iter()).zip(answers.iter()) {
-        let asked = call_text(rt.alloc(), call)?;
-        let answered = answer_text(rt.alloc(), *answer)?;
-        let left = asked.as_str();
-        let right = answered.as_str();
-        println!(rt; "line {line}: {left}: {right}")?;
-    }
-    Ok(())
 }
 
 fn kind_name(item: u8) -> &'static str {
-    match kind_of(item) {
-        Some(kind) => kind_text(kind),
-        None => "no item",
-    }
+    kind_of(item).map_or("no item", |kind| kind.name())
 }
 
 // Two items of two orders, side by side.
-fn print_mixed(rt: &HostRuntime, one: (u8, u32), other: (u8, u32)) -> anyhow::Result<()> {
-    let (new, old) = if is_later(one.1, other.1) {
+fn print_mixed(rt: &HostRuntime, one: Shown, other: Shown) -> anyhow::Result<()> {
+    let (new, old) = if is_later(one.stamp, other.stamp) {
         (one, other)
     } else {
         (other, one)
     };
-    let new_item = new.0;
-    let old_item = old.0;
+    let new_item = new.item;
+    let old_item = old.item;
     let new_kind = kind_name(new_item);
     let old_kind = kind_name(old_item);
-    let age = if old.1 == 0 { "no" } else { "the old" };
+    let age = if old.stamp == 0 { "no" } else { "the old" };
     println!(rt;
         "  the new {new_kind} of item {new_item} beside {age} {old_kind} of item {old_item}"
     )?;
     Ok(())
 }
 
-// What each first ask showed, as a read of the item alone; two orders side by side are named.
-fn print_firsts(rt: &HostRuntime, calls: &[Call], answers: &[Answer]) -> anyhow::Result<()> {
-    println!(rt; "item by item, as first asked:")?;
-    let mut track = Track::new();
-    let mut before = (0, 0, 0);
-    for (call, answer) in calls.iter().zip(answers.iter()) {
-        if is_refused(answer) {
-            continue;
-        }
-        track.accept(call);
-        if let (Call::First { reader, place }, Answer::Number(stamp)) = (call, answer) {
-            let item = track.item(*reader, *place);
-            show(rt, item, *stamp, code_filed(calls, answers, *stamp, item))?;
-            let (last_reader, last_item, last_stamp) = before;
-            if last_item > 0 && last_reader == *reader && last_stamp != *stamp {
-                print_mixed(rt, (item, *stamp), (last_item, last_stamp))?;
+// The calls of a script as they were played, and what is open after them.
+#[derive(Drop)]
+struct History<'a> {
+    played: Vec<Played<'a>>,
+    open: Open<'a>,
+}
+
+impl<'a> History<'a> {
+    fn new(
+        heap: Global,
+        script: &'a Script,
+        answers: &[Answer],
+    ) -> Result<History<'a>, AllocError> {
+        let mut played = Vec::new(heap);
+        let mut open = Open {
+            orders: BTreeSet::new(heap),
+            reads: BTreeMap::new(heap),
+        };
+        for ((call, line), answer) in script.calls.iter().zip(&script.lines).zip(answers) {
+            let item = open.item(call);
+            if !matches!(answer, Answer::Refused(_)) {
+                open.accept(call)?;
             }
-            before = (*reader, item, *stamp);
+            played.push(Played {
+                line: *line,
+                call,
+                answer: *answer,
+                item,
+            })?;
         }
+        Ok(History { played, open })
     }
-    Ok(())
+
+    // The code that an order of a stamp was filed with for an item.
+    fn code_filed(&self, shown: Shown) -> Option<u64> {
+        let (items, codes) = self.played.iter().find_map(|played| {
+            match (played.call, played.answer) {
+                (Call::File { items, codes, .. }, Answer::Number(n)) if n == shown.stamp => {
+                    Some((items, codes))
+                }
+                _ => None,
+            }
+        })?;
+        items
+            .iter()
+            .zip(codes.iter())
+            .find(|(item, _)| **item == shown.item)
+            .map(|(_, code)| *code)
+    }
+
+    fn print_lines(&self, rt: &HostRuntime) -> anyhow::Result<()> {
+        for played in &self.played {
+            let Played {
+                line,
+                call,
+                answer,
+                ..
+            } = *played;
+            println!(rt; "line {line}: {call}: {answer}")?;
+        }
+        Ok(())
+    }
+
+    // What each first ask showed, as a read of the item alone; two orders side by side are named.
+    fn print_firsts(&self, rt: &HostRuntime) -> anyhow::Result<()> {
+        println!(rt; "item by item, as first asked:")?;
+        let mut before: Option<(u8, Shown)> = None;
+        for played in &self.played {
+            if let (Call::First { reader, .. }, Answer::Number(stamp), Some(item)) = (
+                played.call,
+                played.answer,
+                played.item,
+            ) {
+                let shown = Shown { item, stamp };
+                shown.print(rt, self.code_filed(shown))?;
+                if let Some((last_reader, last)) = before {
+                    if last_reader == *reader && last.stamp != stamp {
+                        print_mixed(rt, shown, last)?;
+                    }
+                }
+                before = Some((*reader, shown));
+            }
+        }
+        Ok(())
+    }
+
+    // What each take showed.
+    fn print_takes(&self, rt: &HostRuntime) -> anyhow::Result<()> {
+        println!(rt; "together, as taken:")?;
+        for played in &self.played {
+            if let (Call::Take { .. }, Answer::Shown { stamp, code }, Some(item)) = (
+                played.call,
+                played.answer,
+                played.item,
+            ) {
+                let held = if stamp > 0 { Some(code) } else { None };
+                Shown { item, stamp }.print(rt, held)?;
+            }
+        }
+        Ok(())
+    }
+
+    // How many asks each release answered, and what is open at the end.
+    fn print_end(&self, rt: &HostRuntime) -> anyhow::Result<()> {
+        for played in &self.played {
+            if let (Call::Release { reader }, Answer::Number(asks)) = (played.call, played.answer) {
+                println!(rt; "reader {reader} made {asks} asks")?;
+            }
+        }
+        for writer in &self.open.orders {
+            println!(rt; "still open: order of writer {writer}")?;
+        }
+        for reader in self.open.reads.keys() {
+            println!(rt; "still open: read of reader {reader}")?;
+        }
+        Ok(())
+    }
 }
 
-// What each take showed.
-fn print_takes(rt: &HostRuntime, calls: &[Call], answers: &[Answer]) -> anyhow::Result<()> {
-    println!(rt; "together, as taken:")?;
-    let mut track = Track::new();
-    for (call, answer) in calls.iter().zip(answers.iter()) {
-        if is_refused(answer) {
-            continue;
-        }
-        track.accept(call);
-        if let (Call::Take { reader, place }, Answer::Shown { stamp, code }) = (call, answer) {
-            let item = track.item(*reader, *place);
-            let held = if *stamp > 0 { Some(*code) } else { None };
-            show(rt, item, *stamp, held)?;
-        }
-    }
-    Ok(())
-}
-
-// How many asks each release answered, and what is open at the end.
-fn print_end(rt: &HostRuntime, calls: &[Call], answers: &[Answer]) -> anyhow::Result<()> {
-    let mut track = Track::new();
-    for (call, answer) in calls.iter().zip(answers.iter()) {
-        if is_refused(answer) {
-            continue;
-        }
-        track.accept(call);
-        if let (Call::Release { reader }, Answer::Number(asks)) = (call, answer) {
-            println!(rt; "reader {reader} made {asks} asks")?;
-        }
-    }
-    print_open(rt, "order of writer", &track.orders)?;
-    print_open(rt, "read of reader", &track.reads)
-}
-
-fn print_open(rt: &HostRuntime, what: &str, flags: &[bool]) -> anyhow::Result<()> {
-    for (i, flag) in flags.iter().enumerate() {
-        if *flag {
-            println!(rt; "still open: {what} {i}")?;
-        }
-    }
-    Ok(())
-}
-
-pub(super) fn report(
-    rt: &HostRuntime,
-    calls: &[Call],
-    lines: &[usize],
-    answers: &[Answer],
-) -> anyhow::Result<()> {
-    print_lines(rt, calls, lines, answers)?;
-    print_firsts(rt, calls, answers)?;
-    print_takes(rt, calls, answers)?;
-    print_end(rt, calls, answers)
+pub(super) fn report(rt: &HostRuntime, script: &Script, answers: &[Answer]) -> anyhow::Result<()> {
+    let history = History::new(rt.alloc(), script, answers)?;
+    history.print_lines(rt)?;
+    history.print_firsts(rt)?;
+    history.print_takes(rt)?;
+    history.print_end(rt)
 }

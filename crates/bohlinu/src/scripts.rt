@@ -1,14 +1,15 @@
 // Plays a script of calls over a layout of stores and under a naming rule.
+use super::lines::token_lines;
 use super::reports::report;
-use super::sheets::is_silent;
-use super::sites::{Layout, layout_name, new_journal, new_layered, new_table};
+use super::sites::{Errand, Layout};
+use super::words::UnknownWord;
 use naming::{FilterRule, ListRule, Naming, StampRule};
 use runs::{Call, run};
-use script::{fault_text, read_call};
+use script::{FaultOnLine, ScriptError, read_call};
 use service::Service;
 use std::alloc::AllocError;
+use std::str::FromStr;
 use store::Store;
-use text::tokens;
 
 pub const HEADING: &str = "a panel reads items 5, 130 and 202 while order 34 replaces order 17";
 
@@ -40,11 +41,11 @@ take 0 2
 release 0
 ";
 
-// The calls of a script, each with the number of its line.
+// The calls of a script, and the number of each one's line: the calls stand alone because `run` takes them as one slice.
 #[derive(Drop)]
-struct Script {
-    calls: Vec<Call>,
-    lines: Vec<usize>,
+pub(super) struct Script {
+    pub(super) calls: Vec<Call>,
+    pub(super) lines: Vec<usize>,
 }
 
 impl Script {
@@ -61,35 +62,34 @@ fn read_script(rt: &HostRuntime, text: &str) -> anyhow::Result<Script> {
         calls: Vec::new(rt.alloc()),
         lines: Vec::new(rt.alloc()),
     };
-    for (index, line) in text.split('\n').enumerate() {
-        let words = tokens(rt.alloc(), line.as_bytes())?;
-        let number = index.saturating_add(1);
-        if is_silent(line, words.as_slice()) {
-            continue;
-        }
-        match read_call(rt.alloc(), words.as_slice())? {
-            Ok(call) => script.keep(call, number)?,
-            Err(fault) => rt.println(fault_text(rt.alloc(), number, fault)?)?,
+    for line in &token_lines(rt.alloc(), text)? {
+        match read_call(rt.alloc(), line.tokens.as_slice()) {
+            Ok(call) => script.keep(call, line.number)?,
+            Err(ScriptError::Fault(fault)) => rt.println(FaultOnLine {
+                line: line.number,
+                fault,
+            })?,
+            Err(ScriptError::Memory(error)) => return Err(error.into()),
         }
     }
     Ok(script)
 }
 
-// Makes the calls on a fresh service.
-fn play_on<S: Store + Drop, N: Naming + Drop>(
-    rt: &HostRuntime,
-    store: S,
+// The calls of a script, to be made on a fresh service under a rule.
+#[derive(Drop)]
+struct PlayErrand<'a, N> {
+    rt: &'a HostRuntime,
     rule: N,
-    script: &Script,
-) -> anyhow::Result<()> {
-    let mut service = Service::new(store, rule);
-    let answers = run(rt.alloc(), &mut service, script.calls.as_slice())?;
-    report(
-        rt,
-        script.calls.as_slice(),
-        script.lines.as_slice(),
-        answers.as_slice(),
-    )
+    script: &'a Script,
+}
+
+impl<N: Naming + Drop> Errand for PlayErrand<'_, N> {
+    fn run<S: Store + Drop>(self, store: S) -> anyhow::Result<()> {
+        let PlayErrand { rt, rule, script } = self;
+        let mut service = Service::new(store, rule);
+        let answers = run(rt.alloc(), &mut service, script.calls.as_slice())?;
+        report(rt, script, answers.as_slice())
+    }
 }
 
 // The rules under which a script is played.
@@ -101,13 +101,17 @@ pub enum Rules {
     All,
 }
 
-pub(super) fn rules_of(word: &str) -> Option<Rules> {
-    match word {
-        "list" => Some(Rules::List),
-        "stamp" => Some(Rules::Stamp),
-        "filter" => Some(Rules::Filter),
-        "all" => Some(Rules::All),
-        _ => None,
+impl FromStr for Rules {
+    type Err = UnknownWord;
+
+    fn from_str(word: &str) -> Result<Rules, UnknownWord> {
+        match word {
+            "list" => Ok(Rules::List),
+            "stamp" => Ok(Rules::Stamp),
+            "filter" => Ok(Rules::Filter),
+            "all" => Ok(Rules::All),
+            _ => Err(UnknownWord("a rule is list, stamp, filter or all")),
+        }
     }
 }
 
@@ -118,13 +122,8 @@ fn play_under<N: Naming + Drop>(
     rule: N,
     script: &Script,
 ) -> anyhow::Result<()> {
-    let place = layout_name(layout);
-    println!(rt; "layout {place}, rule {name}")?;
-    match layout {
-        Layout::Table => play_on(rt, new_table(rt.alloc())?, rule, script),
-        Layout::Journal => play_on(rt, new_journal(rt.alloc())?, rule, script),
-        Layout::Layered => play_on(rt, new_layered(rt.alloc())?, rule, script),
-    }
+    println!(rt; "layout {layout}, rule {name}")?;
+    layout.run(rt.alloc(), PlayErrand { rt, rule, script })
 }
 
 // Plays the calls of a text, each rule on a service of its own.
@@ -137,14 +136,14 @@ pub(super) fn play(
 ) -> anyhow::Result<()> {
     println!(rt; "script: {name}")?;
     let script = read_script(rt, text)?;
-    match rules {
-        Rules::List => play_under(rt, layout, "list", ListRule, &script),
-        Rules::Stamp => play_under(rt, layout, "stamp", StampRule, &script),
-        Rules::Filter => play_under(rt, layout, "filter", FilterRule, &script),
-        Rules::All => {
-            play_under(rt, layout, "list", ListRule, &script)?;
-            play_under(rt, layout, "stamp", StampRule, &script)?;
-            play_under(rt, layout, "filter", FilterRule, &script)
-        }
+    if matches!(rules, Rules::List | Rules::All) {
+        play_under(rt, layout, "list", ListRule, &script)?;
     }
+    if matches!(rules, Rules::Stamp | Rules::All) {
+        play_under(rt, layout, "stamp", StampRule, &script)?;
+    }
+    if matches!(rules, Rules::Filter | Rules::All) {
+        play_under(rt, layout, "filter", FilterRule, &script)?;
+    }
+    Ok(())
 }

@@ -1,6 +1,6 @@
 // Checks a sheet line by line, prints what each line comes to, and sums up.
-use sheet::{LineFault, Sheet, entry_text, read_heading, refusal_text, stamp_text};
-use text::{Token, tokens};
+use super::lines::{TokenLine, token_lines};
+use sheet::{LineFault, RefusedLine, Sheet, read_heading, stamp_text};
 
 pub const EXAMPLE: &str = "# a blend order of console 1: volume, line-up, tank card
 writer 1 sequence 1
@@ -18,69 +18,56 @@ writer 1 sequence 1
 #[derive(Drop)]
 struct Progress {
     sheet: Sheet,
-    headed: bool,
     refused: u32,
 }
 
 impl Progress {
     fn refuse(&mut self, rt: &HostRuntime, line: usize, fault: LineFault) -> anyhow::Result<()> {
         self.refused = self.refused.saturating_add(1);
-        rt.println(refusal_text(rt.alloc(), line, fault)?)?;
+        rt.println(RefusedLine { line, fault })?;
         Ok(())
     }
 
-    // The first line with words is the heading.
-    fn heading(&mut self, rt: &HostRuntime, line: usize, words: &[Token]) -> anyhow::Result<()> {
-        self.headed = true;
-        match read_heading(words) {
+    fn heading(&mut self, rt: &HostRuntime, line: &TokenLine) -> anyhow::Result<()> {
+        match read_heading(line.tokens.as_slice()) {
             Ok(stamp) => rt.println(stamp_text(rt.alloc(), stamp)?)?,
-            Err(fault) => self.refuse(rt, line, fault)?,
+            Err(fault) => self.refuse(rt, line.number, fault)?,
         }
         Ok(())
     }
 
-    fn entry(&mut self, rt: &HostRuntime, line: usize, words: &[Token]) -> anyhow::Result<()> {
-        match self.sheet.take(words) {
-            Ok(entry) => rt.println(entry_text(rt.alloc(), entry)?)?,
-            Err(fault) => self.refuse(rt, line, fault)?,
+    fn entry(&mut self, rt: &HostRuntime, line: &TokenLine) -> anyhow::Result<()> {
+        match self.sheet.take(line.tokens.as_slice()) {
+            Ok(entry) => rt.println(entry)?,
+            Err(fault) => self.refuse(rt, line.number, fault)?,
         }
+        Ok(())
+    }
+
+    fn summary(&self, rt: &HostRuntime) -> anyhow::Result<()> {
+        let taken = self.sheet.items().len();
+        let refused = self.refused;
+        if taken == 0 {
+            println!(rt; "refused 13: a sheet has one to eight items")?;
+        }
+        println!(rt; "{taken} items taken, {refused} lines refused")?;
         Ok(())
     }
 }
 
-// Whether nothing is to be read of the line: it is empty, or begins with #.
-pub(super) fn is_silent(line: &str, words: &[Token]) -> bool {
-    words.is_empty() || line.trim_start().starts_with('#')
-}
-
-fn summary(rt: &HostRuntime, progress: &Progress) -> anyhow::Result<()> {
-    let taken = progress.sheet.items().len();
-    let refused = progress.refused;
-    if taken == 0 {
-        println!(rt; "refused 13: a sheet has one to eight items")?;
-    }
-    println!(rt; "{taken} items taken, {refused} lines refused")?;
-    Ok(())
-}
-
+// The first line with words is the heading, the others are entries.
 pub(super) fn check(rt: &HostRuntime, name: &str, text: &str) -> anyhow::Result<()> {
     println!(rt; "sheet: {name}")?;
     let mut progress = Progress {
         sheet: Sheet::new(),
-        headed: false,
         refused: 0,
     };
-    for (index, line) in text.split('\n').enumerate() {
-        let words = tokens(rt.alloc(), line.as_bytes())?;
-        let number = index.saturating_add(1);
-        if is_silent(line, words.as_slice()) {
-            continue;
-        }
-        if progress.headed {
-            progress.entry(rt, number, words.as_slice())?;
-        } else {
-            progress.heading(rt, number, words.as_slice())?;
+    let lines = token_lines(rt.alloc(), text)?;
+    if let Some((heading, entries)) = lines.split_first() {
+        progress.heading(rt, heading)?;
+        for line in entries {
+            progress.entry(rt, line)?;
         }
     }
-    summary(rt, &progress)
+    progress.summary(rt)
 }

@@ -1,7 +1,8 @@
 // Serves frames to a station, prints what each asked and what was replied, and sums up what the station holds.
-use super::sites::{Layout, layout_name, new_journal, new_layered, new_table};
-use frames::{Reply, read_reply};
-use station::{hex_bytes, hex_text, reply_meaning, request_meaning, serve_line};
+use super::lines::{Line, lines_of};
+use super::sites::{Errand, Layout};
+use frames::{Reply, read_reply, reply_frame};
+use station::{HexFault, hex_bytes, hex_text, reply_meaning, request_meaning};
 use store::Store;
 
 pub const EXAMPLE: &str =
@@ -28,23 +29,6 @@ pub const EXAMPLE: &str =
 03 0g
 ";
 
-// How many lines came to what.
-#[derive(Drop)]
-struct Counts {
-    served: u32,
-    refused: u32,
-    bad: u32,
-}
-
-impl Counts {
-    fn add(&mut self, reply: &[u8]) {
-        match read_reply(reply) {
-            Ok(Reply::Refused(_)) => self.refused = self.refused.saturating_add(1),
-            _ => self.served = self.served.saturating_add(1),
-        }
-    }
-}
-
 // Prints a frame and what it means.
 fn show(rt: &HostRuntime, word: &str, frame: &[u8], meaning: &str) -> anyhow::Result<()> {
     let hex = hex_text(rt.alloc(), frame)?;
@@ -52,74 +36,92 @@ fn show(rt: &HostRuntime, word: &str, frame: &[u8], meaning: &str) -> anyhow::Re
     Ok(())
 }
 
-fn answer<S: Store>(
-    rt: &HostRuntime,
-    store: &mut S,
-    counts: &mut Counts,
-    frame: &[u8],
-) -> anyhow::Result<()> {
-    let asked = request_meaning(rt.alloc(), frame)?;
-    show(rt, "frame", frame, asked.as_str())?;
-    let answer = serve_line(store, frame);
-    let replied = reply_meaning(rt.alloc(), answer.frame())?;
-    show(rt, "reply", answer.frame(), replied.as_str())?;
-    counts.add(answer.frame());
-    Ok(())
+// A station at work: its store, and how many lines came to what.
+#[derive(Drop)]
+struct Station<'a, S> {
+    rt: &'a HostRuntime,
+    store: S,
+    served: u32,
+    refused: u32,
+    bad: u32,
 }
 
-// One line: a frame that is served, or no frame.
-fn take<S: Store>(
-    rt: &HostRuntime,
-    store: &mut S,
-    counts: &mut Counts,
-    number: usize,
-    line: &str,
-) -> anyhow::Result<()> {
-    match hex_bytes(rt.alloc(), line.as_bytes())? {
-        Ok(frame) => answer(rt, store, counts, frame.as_slice()),
-        Err(fault) => {
-            counts.bad = counts.bad.saturating_add(1);
-            let reason = fault.reason();
-            println!(rt; "line {number}: no frame: {reason}")?;
-            Ok(())
+impl<S: Store + Drop> Station<'_, S> {
+    fn count(&mut self, reply: &[u8]) {
+        match read_reply(reply) {
+            Ok(Reply::Refused(_)) => self.refused = self.refused.saturating_add(1),
+            _ => self.served = self.served.saturating_add(1),
         }
     }
-}
 
-// Prints the last version of each item that has one, and the counts.
-fn summary<S: Store>(rt: &HostRuntime, store: &S, counts: &Counts) -> anyhow::Result<()> {
-    for item in 1..=255u8 {
-        if let Ok((stamp, code, mark)) = store.last(item) {
-            if stamp != 0 {
-                println!(rt; "item {item} last stamp {stamp} code {code} mark {mark}")?;
+    fn answer(&mut self, frame: &[u8]) -> anyhow::Result<()> {
+        let rt = self.rt;
+        let asked = request_meaning(rt.alloc(), frame)?;
+        show(rt, "frame", frame, asked.as_str())?;
+        let reply = reply_frame(&mut self.store, frame);
+        let replied = reply_meaning(rt.alloc(), reply.frame())?;
+        show(rt, "reply", reply.frame(), replied.as_str())?;
+        self.count(reply.frame());
+        Ok(())
+    }
+
+    // One line: a frame that is served, or no frame.
+    fn take(&mut self, line: Line) -> anyhow::Result<()> {
+        let rt = self.rt;
+        match hex_bytes(rt.alloc(), line.text.as_bytes()) {
+            Ok(frame) => self.answer(frame.as_slice()),
+            Err(fault @ HexFault::OutOfMemory) => Err(fault.into()),
+            Err(fault) => {
+                self.bad = self.bad.saturating_add(1);
+                let number = line.number;
+                println!(rt; "line {number}: no frame: {fault}")?;
+                Ok(())
             }
         }
     }
-    let served = counts.served;
-    let refused = counts.refused;
-    let bad = counts.bad;
-    println!(rt; "{served} frames served, {refused} refused, {bad} lines without a frame")?;
-    Ok(())
-}
 
-// Whether nothing is to be read of the line: it is empty, or begins with #.
-fn is_silent(line: &str) -> bool {
-    let rest = line.trim_start();
-    rest.is_empty() || rest.starts_with('#')
-}
-
-fn serve_text<S: Store>(rt: &HostRuntime, store: &mut S, text: &str) -> anyhow::Result<()> {
-    let mut counts = Counts {
-        served: 0,
-        refused: 0,
-        bad: 0,
-    };
-    for (index, line) in text.split('\n').enumerate() {
-        if !is_silent(line) {
-            take(rt, store, &mut counts, index.saturating_add(1), line)?;
+    // Prints the last version of each item that has one, and the counts.
+    fn summary(&self) -> anyhow::Result<()> {
+        let rt = self.rt;
+        for item in 1..=255u8 {
+            if let Ok((stamp, code, mark)) = self.store.last(item) {
+                if stamp != 0 {
+                    println!(rt; "item {item} last stamp {stamp} code {code} mark {mark}")?;
+                }
+            }
         }
+        let served = self.served;
+        let refused = self.refused;
+        let bad = self.bad;
+        println!(rt; "{served} frames served, {refused} refused, {bad} lines without a frame")?;
+        Ok(())
     }
-    summary(rt, store, &counts)
+}
+
+// Frames, to be served to a fresh station.
+#[derive(Clone, Copy)]
+struct ServeErrand<'a> {
+    rt: &'a HostRuntime,
+    text: &'a str,
+}
+
+impl Errand for ServeErrand<'_> {
+    fn run<S: Store + Drop>(self, store: S) -> anyhow::Result<()> {
+        let ServeErrand { rt, text } = self;
+        let mut station = Station {
+            rt,
+            store,
+            served: 0,
+            refused: 0,
+            bad: 0,
+        };
+        for line in lines_of(rt.alloc(), text)? {
+            if !line.text.trim_start().is_empty() {
+                station.take(line)?;
+            }
+        }
+        station.summary()
+    }
 }
 
 // Serves the frames of a text to a new station.
@@ -129,20 +131,6 @@ pub(super) fn serve(
     name: &str,
     text: &str,
 ) -> anyhow::Result<()> {
-    let kind = layout_name(layout);
-    println!(rt; "station {kind}: {name}")?;
-    match layout {
-        Layout::Table => {
-            let mut store = new_table(rt.alloc())?;
-            serve_text(rt, &mut store, text)
-        }
-        Layout::Journal => {
-            let mut store = new_journal(rt.alloc())?;
-            serve_text(rt, &mut store, text)
-        }
-        Layout::Layered => {
-            let mut store = new_layered(rt.alloc())?;
-            serve_text(rt, &mut store, text)
-        }
-    }
+    println!(rt; "station {layout}: {name}")?;
+    layout.run(rt.alloc(), ServeErrand { rt, text })
 }

@@ -2,10 +2,11 @@
 
 #![tactic(auto)]
 
-ghost use Rattle.std.specs.Prelude.{◌≡◌, min, IfOk, Ok};
+ghost use Rattle.std.specs.Prelude.{◌≡◌, min, IfOk, Ok, MatchResult};
 ghost use Rattle.store.specs.Room.{Fresh};
 ghost use Rattle.client.specs.Publish.{PublishOutcome, TakesTwo};
 ghost use Rattle.client.specs.Deep.{deep_view};
+ghost use Rattle.client.specs.declared.DeepFault.TheVariants.{NoMemory, Refused};
 
 use partition::Partition;
 use quota::Quota;
@@ -50,12 +51,35 @@ fn publish_two<S: Store>(store: &mut S) -> Result<(u32, u64, u64), StoreFault>
     publish(store, 100, 17, 1, 2)
 }
 
-// Publishes out of order in a store of stores: the later version is the last.
-pub fn publish_deep(heap: Global) -> Result<Result<(u32, u64, u64), StoreFault>, AllocError>
-    ensures { IfOk result (λ x. x ≡ Ok (33, 5, 6)) }
+// Why nothing was published in a store of stores.
+#[derive(Clone, Copy, PartialEq, Eq, Debug)]
+pub enum DeepFault {
+    NoMemory,
+    Refused(StoreFault),
+}
+
+impl From<AllocError> for DeepFault {
+    ghost from_gives = { λ e fault. fault ≡ NoMemory };
+
+    fn from(_e: AllocError) -> DeepFault {
+        DeepFault::NoMemory
+    }
+}
+
+impl From<StoreFault> for DeepFault {
+    ghost from_gives = { λ e fault. fault ≡ Refused e };
+
+    fn from(fault: StoreFault) -> DeepFault {
+        DeepFault::Refused(fault)
+    }
+}
+
+// Publishes out of order in a store of stores: the later version is the last, and only want of memory refuses.
+pub fn publish_deep(heap: Global) -> Result<(u32, u64, u64), DeepFault>
+    ensures { MatchResult result (λ x. x ≡ (33, 5, 6)) (λ fault. fault ≡ NoMemory) }
 {
     let mut store = quota_of_tables(heap, 4, 100, 2)?;
-    Ok(publish_two(&mut store))
+    Ok(publish_two(&mut store)?)
 }
 
 #[cfg(test)]
@@ -65,12 +89,7 @@ mod tests {
 
     #[test]
     fn deep(rt: HostRuntime) -> Result<(), Fail> {
-        match publish_deep(rt.alloc())? {
-            Ok((stamp, code, mark)) => {
-                assert!(rt; stamp == 33 && code == 5 && mark == 6);
-                Ok(())
-            },
-            Err(_) => Err(Fail::new("refused")),
-        }
+        assert_eq!(rt; publish_deep(rt.alloc()), Ok((33, 5, 6)));
+        Ok(())
     }
 }

@@ -1,27 +1,21 @@
 -- The run in which a read overtakes an order, step by step.
-use Rattle.std.proofs.Common.{◌≡◌, ℕ, zero, suc, true, cond, ◌&&◌, eqb, List, [], ◌∷◌, Some, None, refl, inl, inr, arith, lit<}
-use Rattle.std.proofs.lemmas.Bool.{cases_eq, cond-false, ne_eqb, and_left, and_right}
-use Rattle.naming.specs.Named.{list_complete}
+use Rattle.std.proofs.Common.{◌≡◌, ℕ, suc, true, cond, ◌&&◌, eqb, List, [], ◌∷◌, Some, None, refl, inl, inr, arith, rules}
+use Rattle.naming.specs.Marks.{list_rule}
+use Rattle.naming.specs.Named.{list_lawful}
 use Rattle.blend.specs.Refusals.{first_of}
 use Rattle.blend.specs.Stamps.{later}
 use Rattle.store.specs.Meaning.{View, blank}
 use Rattle.store.specs.Tests.{put_tests}
 use Rattle.store.specs.Outcomes.{PutDone, CommitDone}
-use Rattle.protocol.specs.Naming.{Lawful, Bytes}
+use Rattle.protocol.specs.Naming.{Bytes}
 use Rattle.protocol.specs.State.{upd, OpenOrder, State, order_of, read_of}
 use Rattle.protocol.specs.Step.{filed_row, with_order, prepared_at, committed_at, set_writer, set_reader, fresh_read, first_asked, second_asked}
 use Rattle.protocol.specs.History.{opened, with_first, with_second, progress_in}
 use Rattle.protocol.specs.Law.{Trace, start, next}
-use Rattle.figures.specs.Example.{list_rule, example, ReadOvertakes}
+use Rattle.figures.specs.Example.{example, ReadOvertakes}
 use Rattle.protocol.proofs.Basics.{upd_off}
 use Rattle.protocol.proofs.Tests.{finished_to}
 use Rattle.protocol.proofs.Inv.{Held}
-
-lawful : Lawful list_rule
-lawful = record {
-  complete = λ items long bytes k l. list_complete items k long bytes l;
-  nonzero = λ mark. refl;
-}
 
 -- ── the store ──
 
@@ -55,10 +49,7 @@ abbrev none : ℕ → ℕ
 none i = 0
 
 other : (held : Held) (item stamp code i t : ℕ) → (i ≡ item → t ≡ stamp → ⊥) → holding held item stamp code i t ≡ held i t
-other held item stamp code i t d = cond-false (eqb i item && eqb t stamp) (Some (code, mark)) (held i t) (elim (cases_eq i item) [
-  | inl e ↦ and_right (eqb i item) (eqb t stamp) (ne_eqb t stamp (d e))
-  | inr n ↦ and_left (eqb i item) (eqb t stamp) (ne_eqb i item n)
-])
+other held item stamp code i t d = grind arith
 
 -- a new version takes one space of every item
 puts : (held : Held) (room item code : ℕ) → first_of (put_tests (store held none (suc room)) item 17 code mark) ≡ None →
@@ -89,9 +80,7 @@ committed = record {
 -- ── the states ──
 
 bytes : Bytes items
-bytes zero = lit< tt
-bytes (suc zero) = lit< tt
-bytes (suc (suc k)) = omega arith
+bytes k = search rules
 
 abbrev s₀ : State
 s₀ = record { store = store held₀ none 2; writers = λ w. record { sequence = 0; current = None }; readers = λ r. None }
@@ -151,7 +140,7 @@ run =
 pub read_overtakes : ReadOvertakes
 unfolding later
 read_overtakes = record {
-  lawful = lawful;
+  lawful = list_lawful;
   before = s₀;
   after = s₈;
   last_held = λ i l. absurd (omega arith);

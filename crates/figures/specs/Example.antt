@@ -1,18 +1,14 @@
 -- The worked run, by the list rule: a read overtakes an order, asks again, and shows the order whole. So the law over runs speaks of
 -- something.
-use Rattle.std.specs.Prelude.{◌≡◌, false, [], ◌∷◌, Some}
+use Rattle.std.specs.Prelude.{◌≡◌, [], ◌∷◌, Some}
 use Rattle.store.specs.Meaning.{LastHeld}
-use Rattle.naming.specs.Marks.{list_mark, list_names}
-use Rattle.rows.specs.Rules.{rule_of}
-use Rattle.protocol.specs.Naming.{Naming, Lawful}
+use Rattle.naming.specs.Marks.{list_rule}
+use Rattle.protocol.specs.Naming.{Lawful}
 use Rattle.protocol.specs.Calls.{file, prepare, commit, close, open_read, first_ask, second_ask, take, release, by_writer, by_reader, refused, accepted}
 use Rattle.protocol.specs.State.{Order, State, Untouched}
 use Rattle.protocol.specs.Asks.{Finished}
 use Rattle.protocol.specs.History.{called, History, filed, Ordered, Prepared, Read, current_read, progress_in}
 use Rattle.protocol.specs.Law.{Trace, Next}
-
-abbrev pub list_rule : Naming
-list_rule = rule_of list_mark list_names false
 
 -- The newest first: writer 1 orders the items 5 and 130, and has committed the first of them when reader 0 asks for both.
 abbrev pub example : History

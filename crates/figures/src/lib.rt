@@ -7,7 +7,7 @@ ghost use Rattle.figures.specs.Figures.{Figures, the_figures};
 
 use blend::{Body, LineUp, Quantity, Refusal, stamp_of};
 
-#[derive(Clone, Copy)]
+#[derive(Clone, Copy, PartialEq, Eq, Debug)]
 pub struct Worked {
     pub last_stamp: Result<u32, Refusal>,
     pub quantity: Result<u64, Refusal>,

@@ -1,4 +1,3 @@
 pub mod Trips
 mod Pieces
 mod Stamped
-mod Sending

@@ -3,3 +3,4 @@ pub mod Family
 pub mod Requests
 pub mod Replies
 pub mod Serving
+pub mod Words

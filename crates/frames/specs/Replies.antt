@@ -1,6 +1,7 @@
 -- Replies: 17 is yes or no, 18 a version, 19 a refusal from 1 to 7.
 use Rattle.std.specs.Prelude.{ℕ, Bool, true, false, cond, ◌&&◌, [], ◌∷◌, Some, None, Ok, Err, Option, Result, ◌==◌, nat_le, slice_index}
 use Rattle.layout.specs.Bodies.{version_widths, triple}
+use Rattle.store.specs.Meaning.{Version as Versions}
 use Rattle.store.specs.Outcomes.{one_if}
 use Rattle.frames.specs.declared.fault.FrameFault.{FrameFault}
 use Rattle.frames.specs.declared.fault.FrameFault.TheVariants.{Unlisted}
@@ -30,6 +31,17 @@ abbrev pub reply_with : Fields → Result Reply FrameFault
 reply_with x =
     cond (x.0 == 17) (done_with (slice_index x.1 0))
     (cond (x.0 == 18) (Ok (Version (triple x.1))) (refused_with (slice_index x.1 0)))
+
+-- the yes or no that a reply says, and the version
+abbrev pub done_in : Reply → Option Bool
+done_in (Done b) = Some b
+done_in (Version x) = None
+done_in (Refused n) = None
+
+abbrev pub version_in : Reply → Option Versions
+version_in (Done b) = None
+version_in (Version x) = Some x
+version_in (Refused n) = None
 
 abbrev pub reply_fault : Reply → Option FrameFault
 reply_fault (Done b) = None

@@ -1,8 +1,8 @@
 -- What serving a frame comes to.
-use Rattle.std.specs.Prelude.{◌≡◌, ℕ, ◌<◌, ◌≤◌, Bool, List, ◌++◌, length, drop, None, Ok, Err, Result}
+use Rattle.std.specs.Prelude.{◌≡◌, ℕ, ◌<◌, ◌≤◌, List, ◌++◌, length, drop, None, Ok, Err, Result}
 use Rattle.store.specs.declared.StoreFault.{StoreFault}
 use Rattle.store.specs.Faults.{number_of}
-use Rattle.store.specs.Meaning.{View, Version as Versions}
+use Rattle.store.specs.Meaning.{View}
 use Rattle.store.specs.Outcomes.{PutOutcome, CommitOutcome, LastOutcome, PickOutcome}
 use Rattle.frames.specs.declared.fault.FrameFault.{FrameFault}
 use Rattle.frames.specs.declared.fault.FrameFault.TheVariants.{Kind, Buffer}
@@ -13,30 +13,23 @@ use Rattle.frames.specs.Family.{Fits, frame_of}
 use Rattle.frames.specs.Requests.{Asked, put, commit, last, pick}
 use Rattle.frames.specs.Replies.{replies, reply_fault}
 
--- the reply to what a store answered
-abbrev pub done_reply : Result Bool StoreFault → Reply
-done_reply (Ok b) = Done b
-done_reply (Err f) = Refused (number_of f)
-
-abbrev pub version_reply : Result Versions StoreFault → Reply
-version_reply (Ok x) = Version x
-version_reply (Err f) = Refused (number_of f)
+-- the reply to what a store answered, where an answer is said so
+abbrev pub reply_of : {T : Type 0} → (T → Reply) → Result T StoreFault → Reply
+reply_of said (Ok x) = said x
+reply_of said (Err f) = Refused (number_of f)
 
 -- some outcome of the store, and its reply
-abbrev pub DoneReplied : (Result Bool StoreFault → Type 0) → Reply → Type 0
-DoneReplied Outcome x = (o : Result Bool StoreFault) × Outcome o × (x ≡ done_reply o)
-
-abbrev pub VersionReplied : (Result Versions StoreFault → Type 0) → Reply → Type 0
-VersionReplied Outcome x = (o : Result Versions StoreFault) × Outcome o × (x ≡ version_reply o)
+abbrev pub OutcomeReplied : {T : Type 0} → (T → Reply) → (Result T StoreFault → Type 0) → Reply → Type 0
+OutcomeReplied {T} said Outcome x = (o : Result T StoreFault) × Outcome o × (x ≡ reply_of said o)
 
 -- The reply to a frame that was read so, with the store from s to t: that to the store's own outcome, or the refusal of the frame with
 -- the store uncalled.
 abbrev pub Replied : {S : Type 0} → (S → View) → S → S → Result Asked FrameFault → Reply → Type 0
 Replied view s t (Err e) x = (t ≡ s) × (x ≡ Refused (fault_number e))
-Replied view s t (Ok (put i n c m)) x = DoneReplied (PutOutcome (view s) (view t) i n c m) x
-Replied view s t (Ok (commit i n)) x = DoneReplied (CommitOutcome (view s) (view t) i n) x
-Replied view s t (Ok (last i)) x = (t ≡ s) × VersionReplied (LastOutcome (view s) i) x
-Replied view s t (Ok (pick i ns)) x = (t ≡ s) × VersionReplied (PickOutcome (view s) i ns) x
+Replied view s t (Ok (put i n c m)) x = OutcomeReplied Done (PutOutcome (view s) (view t) i n c m) x
+Replied view s t (Ok (commit i n)) x = OutcomeReplied Done (CommitOutcome (view s) (view t) i n) x
+Replied view s t (Ok (last i)) x = (t ≡ s) × OutcomeReplied Version (LastOutcome (view s) i) x
+Replied view s t (Ok (pick i ns)) x = (t ≡ s) × OutcomeReplied Version (PickOutcome (view s) i ns) x
 
 -- a shared store answers questions; any other frame is of no kind that it knows
 abbrev pub question : Result Asked FrameFault → Result Asked FrameFault
@@ -60,3 +53,7 @@ pub record Sent (x : Reply) (before after : List ℕ) (r : Result ℕ FrameFault
 pub record Served (Right : Reply → Type 0) (before after : List ℕ) (r : Result ℕ FrameFault) : Type 0 where
   pub short : length before < 21 → (r ≡ Err Buffer) × (after ≡ before)
   pub enough : 21 ≤ length before → (x : Reply) × Right x × Sent x before after r
+
+-- the frame of a right reply
+abbrev pub Answered : (Reply → Type 0) → List ℕ → Type 0
+Answered Right bs = (x : Reply) × Right x × Sendable x × (bs ≡ frame_of replies x)

@@ -2,23 +2,18 @@
 ghost use Rattle.std.specs.Prelude.{◌≡◌};
 ghost use Rattle.frames.specs.Faults.{fault_number};
 
-#[derive(Clone, Copy)]
+#[derive(Clone, Copy, PartialEq, Eq, Debug)]
 pub enum FrameFault {
-    Kind,
-    Length,
-    Buffer,
-    Unlisted,
+    Kind = 6,
+    Length = 7,
+    Buffer = 8,
+    Unlisted = 9,
 }
 
 impl FrameFault {
     pub fn number(self) -> u8
         ensures { result ≡ fault_number self }
     {
-        match self {
-            FrameFault::Kind => 6,
-            FrameFault::Length => 7,
-            FrameFault::Buffer => 8,
-            FrameFault::Unlisted => 9,
-        }
+        self as u8
     }
 }

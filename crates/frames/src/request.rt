@@ -1,16 +1,18 @@
 // Requests to a store, as frames.
-ghost use Rattle.std.specs.Prelude.{◌≡◌, ◌≤◌, IfOk, IfErr};
+ghost use Rattle.std.specs.Prelude.{◌≡◌, ◌≤◌, take, IfOk, IfErr};
+ghost use Rattle.std.specs.Result.{result_err};
 ghost use Rattle.frames.specs.Faults.{fault_number};
 ghost use Rattle.layout.specs.Layout.{parsed};
 ghost use Rattle.frames.specs.Family.{read_as, frame_of, write_answer, written};
 ghost use Rattle.frames.specs.Requests.{requests, pick, asked_in, Borrows, pick_fault, request_fault, request_frame, stamp_widths};
 
 use super::fault::FrameFault;
+use super::framed::Framed;
 use super::place::place;
 use layout::{commit_body, put_body, version_of};
 
-// The stamps of a pick are still bytes of its frame.
-#[derive(Clone, Copy)]
+// The stamps of a pick are still bytes of its frame, of any length: writing refuses another than 32.
+#[derive(Clone, Copy, PartialEq, Eq, Debug)]
 pub enum Request<'a> {
     Put {
         item: u8,
@@ -38,29 +40,24 @@ pub fn read_request(frame: &[u8]) -> Result<Request<'_>, FrameFault>
     ensures borrowed { IfOk result (Borrows frame.now) }
 {
     match frame {
-        [1, item, rest @ ..] => match version_of(rest) {
-            None => Err(FrameFault::Length),
-            Some((stamp, code, mark)) => Ok(Request::Put {
+        [1, item, rest @ ..] => {
+            let (stamp, code, mark) = version_of(rest).ok_or(FrameFault::Length)?;
+            Ok(Request::Put {
                 item: *item,
                 stamp,
                 code,
                 mark,
-            }),
-        },
+            })
+        }
         [2, item, s0, s1, s2, s3] => {
             let stamp = u32::from_be_bytes([*s0, *s1, *s2, *s3]);
             Ok(Request::Commit { item: *item, stamp })
         }
         [3, item] => Ok(Request::Last { item: *item }),
-        [4, item, stamps @ ..] => {
-            if stamps.len() != 32 {
-                return Err(FrameFault::Length);
-            }
-            Ok(Request::Pick {
-                item: *item,
-                stamps,
-            })
-        }
+        [4, item, stamps @ ..] if stamps.len() == 32 => Ok(Request::Pick {
+            item: *item,
+            stamps,
+        }),
         [1..=4, ..] => Err(FrameFault::Length),
         _ => Err(FrameFault::Kind),
     }
@@ -82,6 +79,18 @@ pub fn write_request(request: Request<'_>, buf: &mut [u8]) -> Result<usize, Fram
         Request::Commit { item, stamp } => place(buf, 2, &commit_body(item, stamp)),
         Request::Last { item } => place(buf, 3, &[item]),
         Request::Pick { item, stamps } => write_pick(item, stamps, buf),
+    }
+}
+
+impl Request<'_> {
+    // The frame of the request: refuses 7 for a pick that borrows other than 32 bytes.
+    pub fn framed(self) -> Result<Framed<34>, FrameFault>
+        ensures frame { IfOk result (λ f. take f.length f.bytes ≡ request_frame self.entry) }
+        ensures refused { result_err result ≡ request_fault self.entry }
+    {
+        let mut bytes = [0; 34];
+        let length = write_request(self, &mut bytes)?;
+        Ok(Framed::new(bytes, length))
     }
 }
 

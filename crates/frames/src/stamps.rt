@@ -1,9 +1,8 @@
 // Eight stamps as 32 bytes.
 ghost use Rattle.std.specs.Prelude.{◌≡◌};
-ghost use Rattle.layout.specs.Layout.{laid, parsed};
+ghost use Rattle.std.specs.Int.Digits.{number_from_digits};
+ghost use Rattle.layout.specs.Layout.{bytes_of, laid, parsed};
 ghost use Rattle.frames.specs.Requests.{stamp_widths, stamps_in};
-
-use layout::u32_at;
 
 // The stamps in 32 bytes, absent for any other number of bytes.
 pub fn stamps_of(bytes: &[u8]) -> Option<[u32; 8]>
@@ -12,11 +11,13 @@ pub fn stamps_of(bytes: &[u8]) -> Option<[u32; 8]>
     if bytes.len() != 32 {
         return None;
     }
-    let mut stamps = [0; 8];
-    for i in 0..8 {
-        stamps[i] = u32_at(bytes, 4 * i)?;
-    }
-    Some(stamps)
+    let (stamps, _) = bytes.as_chunks::<4>();
+    let stamps: [[u8; 4]; 8] = stamps.try_into().ok()?;
+    Some(stamps.map(
+        |four: [u8; 4]| -> u32
+            ensures { result ≡ number_from_digits 256 four }
+        { u32::from_be_bytes(four) },
+    ))
 }
 
 // The bytes of eight stamps.
@@ -24,10 +25,12 @@ pub fn stamp_bytes(stamps: &[u32; 8]) -> [u8; 32]
     ensures bytes { result ≡ laid stamp_widths stamps.now }
     ensures back { parsed stamp_widths result ≡ stamps.now }
 {
+    let parts = stamps.map(
+        |stamp: u32| -> [u8; 4]
+            ensures { result ≡ bytes_of 4 stamp }
+        { stamp.to_be_bytes() },
+    );
     let mut bytes = [0; 32];
-    for i in 0..8 {
-        let at = 4 * i;
-        bytes[at..at + 4].copy_from_slice(&stamps[i].to_be_bytes());
-    }
+    bytes.copy_from_slice(parts.as_flattened());
     bytes
 }

@@ -1,43 +1,22 @@
 -- Laws of one record more: what is held, last stamps, and that rises never outnumber versions.
-use Rattle.std.proofs.Common.{◌≡◌, ℕ, suc, ◌+◌, ◌*◌, ◌<◌, ◌≤◌, Bool, true, false, cond, ◌&&◌, ◌||◌, eqb, List, [], ◌∷◌, ◌++◌, is_some, Some, None, Option, sym, refl, ap, ◌∙◌, ⊎_elim, arith}
-use Rattle.std.proofs.lemmas.Bool.{eq-eqb, ne_eqb, eqb-true, cases_Bool, cond-false, and_parts, and_from, or_from, both_ways, false≢true, true≢false}
+use Rattle.std.proofs.Common.{◌≡◌, ℕ, suc, ◌+◌, ◌*◌, ◌<◌, ◌≤◌, Bool, true, false, cond, ◌&&◌, ◌||◌, eqb, List, [], ◌∷◌, ◌++◌, is_some, Some, sym, refl, ap, ◌∙◌, ⊎_elim, arith}
+use Rattle.std.proofs.lemmas.Bool.{eq-eqb, ne_eqb, eqb-true, cases_Bool, cond-false, and_parts, and_from, or_from, both_ways, false≢true}
 use Rattle.blend.specs.Stamps.{later, later_of}
 use Rattle.blend.proofs.Order.{onward, not_later_on, never_itself}
-use Rattle.store.specs.Meaning.{Content, picked}
-use Rattle.store.proofs.Choosing.{pick_more, pick_skips}
+use Rattle.std.specs.Option.{option_or}
+use Rattle.store.proofs.Firsts.{option_or_none, option_or_some}
 use Rattle.journal.specs.declared.record.Record.{Record}
 use Rattle.journal.specs.declared.record.Record.TheVariants.{Put, Commit}
 use Rattle.journal.specs.Records.{size, used}
-use Rattle.journal.specs.Held.{lookup, better, last_from, last_of, versions, raises, raised, waiting, Waits}
+use Rattle.journal.specs.Held.{lookup, last_from, last_of, versions, raises, raised, waiting, Waits}
 
 -- ── what is held ──
 
--- the first of two answers
-abbrev pub or_else : Option Content → Option Content → Option Content
-or_else None o = o
-or_else (Some x) o = Some x
-
-pub or_else_none : (o : Option Content) → or_else o None ≡ o
-or_else_none None = refl
-or_else_none (Some x) = refl
-
-or_else_some : (o p : Option Content) → is_some o ≡ true → is_some (or_else o p) ≡ true
-or_else_some None p e = absurd (false≢true e)
-or_else_some (Some x) p e = refl
-
-or_else_first : (o p : Option Content) → is_some o ≡ true → or_else o p ≡ o
-or_else_first None p e = absurd (false≢true e)
-or_else_first (Some x) p e = refl
-
-or_else_second : (o p : Option Content) → is_some o ≡ false → or_else o p ≡ p
-or_else_second None p e = refl
-or_else_second (Some x) p e = absurd (true≢false e)
-
-pub lookup_append : (rs qs : List Record) (i s : ℕ) → lookup (rs ++ qs) i s ≡ or_else (lookup rs i s) (lookup qs i s)
+pub lookup_append : (rs qs : List Record) (i s : ℕ) → lookup (rs ++ qs) i s ≡ option_or (lookup rs i s) (lookup qs i s)
 lookup_append [] qs i s = refl
 lookup_append (Put j t c m ∷ rs) qs i s =
     elim (eqb j i && eqb t s) as
-    (λ b. cond b (Some (c, m)) (lookup (rs ++ qs) i s) ≡ or_else (cond b (Some (c, m)) (lookup rs i s)) (lookup qs i s)) [
+    (λ b. cond b (Some (c, m)) (lookup (rs ++ qs) i s) ≡ option_or (cond b (Some (c, m)) (lookup rs i s)) (lookup qs i s)) [
       | true ↦ refl
       | false ↦ lookup_append rs qs i s
     ]
@@ -45,34 +24,11 @@ lookup_append (Commit j t ∷ rs) qs i s = lookup_append rs qs i s
 
 -- a commit holds nothing
 pub lookup_commit : (rs : List Record) (j t i s : ℕ) → lookup (rs ++ Commit j t ∷ []) i s ≡ lookup rs i s
-lookup_commit rs j t i s = lookup_append rs (Commit j t ∷ []) i s ∙ or_else_none (lookup rs i s)
+lookup_commit rs j t i s = lookup_append rs (Commit j t ∷ []) i s ∙ option_or_none (lookup rs i s)
 
 -- what was held is held with a record more
 pub lookup_keeps : (rs : List Record) (r : Record) (i s : ℕ) → is_some (lookup rs i s) ≡ true → is_some (lookup (rs ++ r ∷ []) i s) ≡ true
-lookup_keeps rs r i s e = ap is_some (lookup_append rs (r ∷ []) i s) ∙ or_else_some (lookup rs i s) _ e
-
-pub none_from : (o : Option Content) → is_some o ≡ false → o ≡ None
-none_from None e = refl
-none_from (Some x) e = absurd (true≢false e)
-
--- one more stamp of a pick
-picked_by : (h : ℕ → Option Content) → h 0 ≡ None → (ss : List ℕ) (s : ℕ) (o : Option Content) → h s ≡ o →
-    picked h (ss ++ s ∷ []) ≡ better (picked h ss) s o
-picked_by h none ss s None e = pick_skips h ss s e
-picked_by h none ss s (Some x) e = pick_more h none ss s x e
-
-pub picked_push : (h : ℕ → Option Content) → h 0 ≡ None → (ss : List ℕ) (s : ℕ) → picked h (ss ++ s ∷ []) ≡ better (picked h ss) s (h s)
-picked_push h none ss s = picked_by h none ss s (h s) refl
-
--- a loop over the records: found at this one, or not
-pub held_here : (r : Record) (rs : List Record) (i s : ℕ) (o : Option Content) → o ≡ lookup (r ∷ []) i s → is_some o ≡ true →
-    o ≡ lookup (r ∷ rs) i s
-held_here r rs i s o e t =
-    e ∙ sym (lookup_append (r ∷ []) rs i s ∙ or_else_first (lookup (r ∷ []) i s) (lookup rs i s) (sym (ap is_some e) ∙ t))
-
-pub held_past : (r : Record) (rs : List Record) (i s : ℕ) (o : Option Content) → o ≡ lookup (r ∷ []) i s → is_some o ≡ false →
-    lookup (r ∷ rs) i s ≡ lookup rs i s
-held_past r rs i s o e f = lookup_append (r ∷ []) rs i s ∙ or_else_second (lookup (r ∷ []) i s) (lookup rs i s) (sym (ap is_some e) ∙ f)
+lookup_keeps rs r i s e = ap is_some (lookup_append rs (r ∷ []) i s) ∙ option_or_some (lookup rs i s) _ e
 
 -- ── last stamps ──
 

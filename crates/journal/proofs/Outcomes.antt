@@ -1,20 +1,20 @@
 -- What an empty journal means, and what a put and a commit that write come to.
 use Rattle.std.proofs.Common.{◌≡◌, ℕ, ◌+◌, ◌-◌, ◌*◌, ◌/◌, ◌<◌, ◌≤◌, true, false, cond, ◌&&◌, eqb, List, [], ◌∷◌, ◌++◌, length, drop, replicate, is_some, Some, None, Option, sym, refl, ap, ◌∙◌, subst, ⊎_elim, arith}
-use Rattle.std.proofs.lemmas.List.{length-replicate}
 use Rattle.std.proofs.lemmas.Bool.{eq-eqb, ne_eqb, cases_eq, cond-true, cond-false, and_from}
 use Rattle.std.proofs.lemmas.Bool.Decides.{nat_tests}
 use Rattle.blend.specs.Stamps.{later, later_of}
+use Rattle.std.specs.Option.{option_or}
+use Rattle.store.proofs.Firsts.{option_or_none}
 use Rattle.store.specs.Meaning.{Content}
 use Rattle.store.specs.Outcomes.{PutDone, CommitDone}
-use Rattle.store.specs.Room.{Fresh}
 use Rattle.store.proofs.Passing.{put_passes, commit_passes}
 use Rattle.journal.specs.declared.record.Record.{Record}
 use Rattle.journal.specs.declared.record.Record.TheVariants.{Put, Commit}
 use Rattle.journal.specs.Records.{records, used, appended}
 use Rattle.journal.specs.Held.{lookup, last_of, versions, Waits, NoBlank, LastsHeld}
 use Rattle.journal.specs.Means.{bytes_view}
-use Rattle.journal.proofs.Counts.{or_else, or_else_none, lookup_append, lookup_commit, lookup_keeps, last_append, versions_push, used_is, waits_put, waits_commit, waits_one}
-use Rattle.journal.proofs.Writes.{Fits, grown, zeros_none}
+use Rattle.journal.proofs.Counts.{lookup_append, lookup_commit, lookup_keeps, last_append, versions_push, used_is, waits_put, waits_commit, waits_one}
+use Rattle.journal.proofs.Writes.{Fits, grown}
 
 -- What a journal keeps of its bytes: its ghost fields, as one.
 pub record Kept (bs : List ℕ) (end count : ℕ) : Type 0 where
@@ -27,37 +27,6 @@ pub record Kept (bs : List ℕ) (end count : ℕ) : Type 0 where
   pub blank : NoBlank (records bs)
   pub committed : LastsHeld (records bs)
 
--- ── empty ──
-
-module _ (bs : List ℕ) (n : ℕ) (e : bs ≡ replicate n 0) where
-  none : records bs ≡ []
-  none = ap records e ∙ zeros_none n
-
-  pub empty_kept : Kept bs 0 0
-  empty_kept =
-      let l : length bs ≡ n = ap length e ∙ length-replicate n 0 in
-      let z : n ≡ length bs - 0 = omega arith in
-      record {
-        within = omega arith;
-        ends = sym (ap used none);
-        clear = e ∙ ap (λ (k : ℕ). replicate {A = ℕ} k 0) z;
-        counted = sym (ap versions none);
-        room = omega arith;
-        waits = subst Waits (sym none) (omega arith);
-        blank = λ i. ap (λ (rs : List Record). is_some (lookup rs i 0)) none;
-        committed = λ i h. absurd (omega (arith, ap (λ (rs : List Record). last_of rs i) none));
-      }
-
-  pub empty_fresh : Fresh (n / 28) (bytes_view bs)
-  empty_fresh =
-      let l : length bs ≡ n = ap length e ∙ length-replicate n 0 in
-      let v = ap versions none in
-      record {
-        held = λ i s. ap (λ (rs : List Record). lookup rs i s) none;
-        lasts = λ i. ap (λ (rs : List Record). last_of rs i) none;
-        spaces = λ i. omega arith;
-      }
-
 -- ── a put that writes ──
 
 miss : (j t i s : ℕ) → (i ≡ j → s ≡ t → ⊥) → (eqb j i && eqb t s) ≡ false
@@ -67,14 +36,14 @@ miss j t i s apart = grind (arith, nat_tests)
 found_new : (rs : List Record) (i s c m : ℕ) → lookup rs i s ≡ None → lookup (rs ++ Put i s c m ∷ []) i s ≡ Some (c, m)
 found_new rs i s c m none =
     lookup_append rs (Put i s c m ∷ []) i s
-    ∙ ap (λ (o : Option Content). or_else o (lookup (Put i s c m ∷ []) i s)) none
+    ∙ ap (λ (o : Option Content). option_or o (lookup (Put i s c m ∷ []) i s)) none
     ∙ cond-true (eqb i i && eqb s s) (Some (c, m)) None (and_from _ _ (eq-eqb i i refl) (eq-eqb s s refl))
 
 found_others : (rs : List Record) (i s c m j t : ℕ) → (j ≡ i → t ≡ s → ⊥) → lookup (rs ++ Put i s c m ∷ []) j t ≡ lookup rs j t
 found_others rs i s c m j t apart =
     lookup_append rs (Put i s c m ∷ []) j t
-    ∙ ap (or_else (lookup rs j t)) (cond-false (eqb i j && eqb s t) (Some (c, m)) None (miss i s j t apart))
-    ∙ or_else_none (lookup rs j t)
+    ∙ ap (option_or (lookup rs j t)) (cond-false (eqb i j && eqb s t) (Some (c, m)) None (miss i s j t apart))
+    ∙ option_or_none (lookup rs j t)
 
 -- there is room for a put while there is space
 pub put_room : (bs : List ℕ) (end count : ℕ) → Kept bs end count → count < length bs / 28 → end + 22 ≤ length bs

@@ -1,7 +1,7 @@
 -- Laws of reading records from bytes.
-use Rattle.std.proofs.Common.{◌≡◌, ℕ, zero, suc, ◌+◌, ◌-◌, ◌<◌, ◌≤◌, List, [], ◌∷◌, ◌++◌, length, take, drop, Some, None, Option, sym, refl, ap, ◌∙◌, subst, ⊎_elim, arith}
+use Rattle.std.proofs.Common.{◌≡◌, ℕ, zero, suc, ◌+◌, ◌≤◌, List, [], ◌∷◌, ◌++◌, length, take, drop, Some, None, Option, sym, refl, ap, ◌∙◌, subst, ⊎_elim, arith}
 use Rattle.std.specs.Int.Digits.{number_from_digits}
-use Rattle.std.proofs.lemmas.List.{take-take, drop-take, drop-drop, length-take, length-drop, take_rest}
+use Rattle.std.proofs.lemmas.List.{take-take, drop-take, drop-drop, length-take}
 use Rattle.std.proofs.lemmas.Bool.{eq-eqb, ne_eqb, cases_eq, cases_lt, cond-true, cond-false, le-ltb, lt-ltb}
 use Rattle.layout.specs.Layout.{parsed, total}
 use Rattle.layout.specs.Bodies.{put_widths, commit_widths}
@@ -74,15 +74,6 @@ seen k b r h =
 seen_size : (k : ℕ) (b : List ℕ) (r : Record) (p : Seen k b r) → size r ≡ suc (total p.ws)
 seen_size k b r p = ap size p.is ∙ p.sized (parsed p.ws b)
 
--- a record lies within the bytes
-first_long : (bs : List ℕ) (r : Record) → first bs ≡ Some r → size r ≤ length bs
-first_long [] r h = no_some r h
-first_long (k ∷ b) r h = let p = seen k b r h in let s = seen_size k b r p in omega (arith, p.long)
-
-size_pos : (r : Record) → 0 < size r
-size_pos (Put i s c m) = omega arith
-size_pos (Commit i s) = omega arith
-
 -- and in no other byte
 first_same : (bs cs : List ℕ) (r : Record) → first bs ≡ Some r → take (size r) cs ≡ take (size r) bs → first cs ≡ Some r
 first_same [] cs r h e = no_some r h
@@ -146,23 +137,3 @@ agree (r ∷ rs) xs cs h e =
     let far : take u (drop n cs) ≡ take u (drop n xs) = sym (drop-take n u cs) ∙ ap (drop n) e ∙ drop-take n u xs in
     records_some cs r (first_same xs cs r p.0 near)
     ∙ ap (λ (l : List Record). r ∷ l) (agree rs (drop n xs) (drop n cs) p.1 far ∙ ap (λ (l : List ℕ). rs ++ records l) (drop-drop u n cs))
-
--- ── the record at a place, as a loop over the bytes reads it ──
-
-pub record At (bs : List ℕ) (at : ℕ) (r : Record) : Type 0 where
-  pub records_are : records (drop at bs) ≡ r ∷ records (drop (at + size r) bs)
-  pub within : at + size r ≤ length bs
-  pub goes : 0 < size r
-
-pub at_some : (bs : List ℕ) (at : ℕ) (r : Record) → at ≤ length bs → Some r ≡ first (take (length bs - at) (drop at bs)) → At bs at r
-at_some bs at r h e =
-    let f : first (drop at bs) ≡ Some r = ap first (sym (take_rest bs at)) ∙ sym e in
-    let l = first_long (drop at bs) r f in
-    record {
-      records_are = records_some (drop at bs) r f ∙ ap (λ (l : List ℕ). r ∷ records l) (drop-drop (size r) at bs);
-      within = omega (arith, length-drop at bs);
-      goes = size_pos r;
-    }
-
-pub at_none : (bs : List ℕ) (at : ℕ) → None ≡ first (take (length bs - at) (drop at bs)) → records (drop at bs) ≡ []
-at_none bs at e = records_none (drop at bs) (ap first (sym (take_rest bs at)) ∙ sym e)

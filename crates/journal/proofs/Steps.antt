@@ -1,53 +1,19 @@
 -- The ghost fields of a journal as one record and back, and its calls that write.
-use Rattle.std.proofs.Common.{◌≡◌, ℕ, ◌+◌, ◌-◌, ◌*◌, ◌/◌, ◌<◌, ◌≤◌, true, List, length, drop, replicate, is_some, None, vec_items, vec_len, sym, ap, ◌∙◌, arith}
+use Rattle.std.proofs.Common.{◌≡◌, ℕ, ◌+◌, ◌/◌, ◌<◌, ◌≤◌, true, List, length, is_some, None, vec_items, vec_len, sym, ap, ◌∙◌, arith, rules}
 use Rattle.std.specs.Vec.{with_items}
 use Rattle.std.proofs.lemmas.List.{with_items_is}
 use Rattle.blend.specs.Stamps.{later}
 use Rattle.journal.specs.declared.Journal.{Journal}
 use Rattle.journal.specs.declared.record.Record.{Record}
 use Rattle.journal.specs.declared.record.Record.TheVariants.{Put, Commit}
-use Rattle.journal.specs.Records.{records, used, appended, size}
-use Rattle.journal.specs.Held.{lookup, last_of, versions, Waits, NoBlank, LastsHeld}
+use Rattle.journal.specs.Records.{records, appended, size}
+use Rattle.journal.specs.Held.{lookup, last_of}
 use Rattle.journal.specs.Means.{bytes_view}
 use Rattle.journal.proofs.Writes.{Fits, length_appended}
 use Rattle.journal.proofs.Outcomes.{Kept, PutStep, put_step, put_room, CommitStep, commit_step, commit_room}
 
 pub kept_of : (j : Journal) → Kept (vec_items j.bytes) j.end j.count
-kept_of j = record {
-  within = j.within;
-  ends = j.ends;
-  clear = j.clear;
-  counted = j.counted;
-  room = j.room;
-  waits = j.waits;
-  blank = j.blank;
-  committed = j.committed;
-}
-
--- by the names of the ghost fields
-abbrev pub Facts : List ℕ → ℕ → ℕ → Type 0
-Facts bs end count = record {
-  within : end ≤ length bs;
-  ends : end ≡ used (records bs);
-  clear : drop end bs ≡ replicate (length bs - end) 0;
-  counted : count ≡ versions (records bs);
-  room : count * 28 ≤ length bs;
-  waits : Waits (records bs);
-  blank : NoBlank (records bs);
-  committed : LastsHeld (records bs);
-}
-
-pub facts : {bs : List ℕ} {end count : ℕ} → Kept bs end count → Facts bs end count
-facts k = record {
-  within = k.within;
-  ends = k.ends;
-  clear = k.clear;
-  counted = k.counted;
-  room = k.room;
-  waits = k.waits;
-  blank = k.blank;
-  committed = k.committed;
-}
+kept_of j = search rules
 
 abbrev pub PutOf : Journal → List ℕ → ℕ → ℕ → ℕ → ℕ → ℕ → Type 0
 PutOf j last n i s c m = PutStep (vec_items j.bytes) (vec_items (with_items j.bytes last)) j.end n j.count i s c m

@@ -8,7 +8,7 @@ use Rattle.layout.specs.Places.{over}
 use Rattle.layout.proofs.Layouts as layouts
 use Rattle.journal.specs.declared.record.Record.{Record}
 use Rattle.journal.specs.declared.record.Record.TheVariants.{Put, Commit}
-use Rattle.journal.specs.Records.{widths_of, values_of, body_of, kind_of, record_bytes, appended, size, Stands, put_from, commit_from, body_in, first, records, used}
+use Rattle.journal.specs.Records.{widths_of, values_of, body_of, kind_of, record_bytes, appended, size, put_from, commit_from, body_in, first, records, used}
 use Rattle.journal.proofs.Scans.{records_some, agree}
 use Rattle.journal.proofs.Counts.{used_push}
 
@@ -28,21 +28,6 @@ laid_is xs end r h =
     let n = length_body r in
     let e : end + 1 + length (body_of r) ≡ end + size r = omega arith in
     layouts.over_is (end + 1) (body_of r) xs (omega arith) ∙ ap (λ (k : ℕ). take (end + 1) xs ++ (body_of r ++ drop k xs)) e
-
-pub body_stands : (xs ys : List ℕ) (end : ℕ) (r : Record) → end + size r ≤ length xs → ys ≡ over (end + 1) (body_of r) xs → Stands end r ys
-body_stands xs ys end r h e =
-    let f = e ∙ laid_is xs end r h in
-    let n = length_body r in
-    let t = take (end + 1) xs in
-    let tail = drop (end + size r) xs in
-    let tl : length t ≡ end + 1 = length-take-le (end + 1) xs (omega arith) in
-    let d : drop (end + 1) ys ≡ body_of r ++ tail = ap (drop (end + 1)) f ∙ drop_at t (body_of r ++ tail) (end + 1) tl in
-    let l : length ys ≡ length xs =
-    ap length f ∙ length-append t (body_of r ++ tail) ∙ omega (arith, length-append (body_of r) tail, length-drop (end + size r) xs) in
-    record {
-      fits = omega arith;
-      body = ap (take (total (widths_of r))) d ∙ take_at (body_of r) tail (total (widths_of r)) n;
-    }
 
 -- the record in one piece, its kind byte stored before the body that was laid
 appended_is : (xs : List ℕ) (end : ℕ) (r : Record) → end + size r ≤ length xs →

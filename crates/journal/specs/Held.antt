@@ -1,7 +1,7 @@
 -- What records hold, and why each version's bytes suffice.
 use Rattle.std.specs.Prelude.{◌≡◌, ℕ, suc, ◌+◌, ◌<◌, ◌≤◌, Bool, true, false, cond, ◌&&◌, ◌||◌, List, [], ◌∷◌, is_some, Some, None, Option, ◌==◌}
 use Rattle.blend.specs.Stamps.{later_of}
-use Rattle.store.specs.Meaning.{Content, Version, later_version}
+use Rattle.store.specs.Meaning.{Content}
 use Rattle.journal.specs.declared.record.Record.{Record}
 use Rattle.journal.specs.declared.record.Record.TheVariants.{Put, Commit}
 use Rattle.journal.specs.Records.{size}
@@ -11,11 +11,6 @@ abbrev pub lookup : List Record → ℕ → ℕ → Option Content
 lookup [] i s = None
 lookup (Put j t c m ∷ rs) i s = cond (j == i && t == s) (Some (c, m)) (lookup rs i s)
 lookup (Commit j t ∷ rs) i s = lookup rs i s
-
--- the best version so far, or the one found with a stamp where it is later
-abbrev pub better : Version → ℕ → Option Content → Version
-better best s None = best
-better best s (Some x) = later_version best (s, x.0, x.1)
 
 -- the last stamp of an item behind the records, from what it was before them
 abbrev pub last_from : ℕ → List Record → ℕ → ℕ

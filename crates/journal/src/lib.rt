@@ -12,8 +12,9 @@ mod made;
 mod record;
 mod scan;
 
-// The records end at `end` with `count` versions among them, and only zeros follow. Each version has its 28 bytes: those of its put
-// and of a rise to it, since rises and versions that wait for theirs are no more than the versions.
+// The bytes are handed back whole, so where their records end, at `end` with `count` versions among them, stands beside them; only
+// zeros follow. Each version has its 28 bytes: those of its put and of a rise to it, since rises and versions that wait for theirs are
+// no more than the versions.
 #[derive(Drop)]
 pub struct Journal {
     bytes: Vec<u8>,

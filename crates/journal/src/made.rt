@@ -27,6 +27,7 @@ impl Journal {
     }
 
     // How many versions it would still take, the same of every item. The bytes left suffice for these and for every rise still possible.
+    #[tactic(auto, using(crate::proofs::Counts::used_is))]
     pub fn space(&self) -> usize
         ensures value { (i : ℕ) → result ≡ (journal_view self.now).space i }
         ensures room { RoomFor result self.now }

@@ -4,9 +4,9 @@ ghost use Rattle.journal.specs.Records.{first, kind_of, size};
 ghost use Rattle.journal.specs.Held.{lookup, last_from};
 
 use blend::later_stamp;
-use layout::{u32_at, u64_at};
+use layout::number_at;
 
-#[derive(Clone, Copy)]
+#[derive(Clone, Copy, PartialEq, Eq, Debug)]
 pub(crate) enum Record {
     Put {
         item: u8,
@@ -26,9 +26,9 @@ pub(crate) fn head(rest: &[u8]) -> Option<Record>
 {
     match rest {
         [1, item, ..] => {
-            let stamp = u32_at(rest, 2)?;
-            let code = u64_at(rest, 6)?;
-            let mark = u64_at(rest, 14)?;
+            let stamp = number_at(rest, 2)?;
+            let code = number_at(rest, 6)?;
+            let mark = number_at(rest, 14)?;
             Some(Record::Put {
                 item: *item,
                 stamp,
@@ -37,7 +37,7 @@ pub(crate) fn head(rest: &[u8]) -> Option<Record>
             })
         }
         [2, item, ..] => {
-            let stamp = u32_at(rest, 2)?;
+            let stamp = number_at(rest, 2)?;
             Some(Record::Commit { item: *item, stamp })
         }
         _ => None,
@@ -75,14 +75,8 @@ impl Record {
                 stamp: s,
                 code,
                 mark,
-            } => {
-                if i == item && s == stamp {
-                    Some((code, mark))
-                } else {
-                    None
-                }
-            }
-            Record::Commit { .. } => None,
+            } if i == item && s == stamp => Some((code, mark)),
+            _ => None,
         }
     }
 
@@ -91,14 +85,8 @@ impl Record {
         ensures { result ≡ last_from last (self ∷ []) item }
     {
         match self {
-            Record::Put { .. } => last,
-            Record::Commit { item: i, stamp } => {
-                if i == item {
-                    later_stamp(last, stamp)
-                } else {
-                    last
-                }
-            }
+            Record::Commit { item: i, stamp } if i == item => later_stamp(last, stamp),
+            _ => last,
         }
     }
 }

@@ -1,14 +1,15 @@
 -- Layouts, there and back, over any list of widths.
-use Rattle.std.proofs.Common.{◌≡◌, ℕ, zero, suc, ◌+◌, ◌*◌, ◌/◌, ◌%◌, ◌^◌, ◌<◌, ◌≤◌, true, false, not, List, [], ◌∷◌, ◌++◌, length, get_or, take, drop, Some, sym, refl, ap, ◌∙◌, subst, ⊎_elim, mod-eq_of_lt, mul_assoc, mul_comm, add-mul, pow-suc, arith}
+use Rattle.std.proofs.Common.{◌≡◌, ℕ, zero, suc, ◌+◌, ◌*◌, ◌/◌, ◌%◌, ◌^◌, ◌<◌, ◌≤◌, true, not, List, [], ◌∷◌, ◌++◌, length, take, drop, sym, refl, ap, ◌∙◌, subst, mod-eq_of_lt, mul_assoc, mul_comm, add-mul, pow-suc, arith}
 use Rattle.std.specs.Int.Digits.{number_from_digits, number_from_digits_after, AllBelowBase}
+use Rattle.std.proofs.ByRecursion.{All-append}
 use Rattle.std.proofs.lemmas.Nat.{mod-pow-add, shr_high, mod-mul-add, pow-add}
-use Rattle.std.proofs.lemmas.Int.Digits.{number_lt, number_after_append}
-use Rattle.std.proofs.lemmas.List.{append_assoc, take_at, drop_at, length-append, length-take-le, length-drop, take-append-drop, drop_more, take-take, drop-take}
-use Rattle.std.proofs.lemmas.Bool.{cond-true, cond-false, le-ltb, lt-ltb, cases_lt}
-use Rattle.layout.specs.Places.{within, field_at, over}
+use Rattle.std.proofs.lemmas.Int.Digits.{number_lt}
+use Rattle.std.proofs.lemmas.List.{append_assoc, take_at, drop_at, length-append, length-take-le, length-drop, take-append-drop}
+use Rattle.std.proofs.lemmas.Bool.{cond-true, le-ltb}
+use Rattle.layout.specs.Places.{within, over}
 use Rattle.layout.specs.Layout.{bytes_of, laid, parsed, Fit, Long, Bytes, Again, Only, FitsRead}
 
-pub length_bytes_of : (w n : ℕ) → length (bytes_of w n) ≡ w
+length_bytes_of : (w n : ℕ) → length (bytes_of w n) ≡ w
 length_bytes_of zero n = refl
 length_bytes_of (suc w) n = ap suc (length_bytes_of w n)
 
@@ -27,7 +28,7 @@ after_bytes (suc w) n a =
     let r : (a * 256 + d) * p ≡ a * 256 * p + d * p = add-mul (a * 256) d p in
     omega arith
 
-pub number_bytes : (w n : ℕ) → n < 2 ^ (8 * w) → number_from_digits 256 (bytes_of w n) ≡ n
+number_bytes : (w n : ℕ) → n < 2 ^ (8 * w) → number_from_digits 256 (bytes_of w n) ≡ n
 number_bytes w n h = let e : n % 2 ^ (8 * w) ≡ n = mod-eq_of_lt h in after_bytes w n 0 ∙ omega arith
 
 pub long : Long
@@ -36,10 +37,6 @@ long (w ∷ ws) [] f = absurd (omega arith)
 long (w ∷ ws) (v ∷ vs) f =
     length-append (bytes_of w v) (laid ws vs) ∙ omega (arith, length_bytes_of w v, long ws vs (omega arith))
 
-under_append : (xs ys : List ℕ) → AllBelowBase 256 xs → AllBelowBase 256 ys → AllBelowBase 256 (xs ++ ys)
-under_append [] ys u v = v
-under_append (x ∷ xs) ys u v = (u.0, under_append xs ys u.1 v)
-
 under_bytes : (w n : ℕ) → AllBelowBase 256 (bytes_of w n)
 under_bytes zero n = tt
 under_bytes (suc w) n = (omega arith, under_bytes w n)
@@ -47,7 +44,7 @@ under_bytes (suc w) n = (omega arith, under_bytes w n)
 pub bytes : Bytes
 bytes [] vs = tt
 bytes (w ∷ ws) [] = tt
-bytes (w ∷ ws) (v ∷ vs) = under_append (bytes_of w v) (laid ws vs) (under_bytes w v) (bytes ws vs)
+bytes (w ∷ ws) (v ∷ vs) = All-append _ (bytes_of w v) (laid ws vs) (under_bytes w v) (bytes ws vs)
 
 -- values that fit are as many as the widths
 pub as_many : (ws vs : List ℕ) → Fit ws vs → length vs ≡ length ws
@@ -85,7 +82,7 @@ pow_256 (suc w) = pow-suc 256 w ∙ ap (λ (x : ℕ). x * 256) (pow_256 w) ∙ m
 below : (bs : List ℕ) → AllBelowBase 256 bs → number_from_digits 256 bs < 2 ^ (8 * length bs)
 below bs u = subst (λ (x : ℕ). number_from_digits 256 bs < x) (pow_256 (length bs)) (number_lt 256 bs u)
 
-pub bytes_number : (a : ℕ) (bs : List ℕ) → AllBelowBase 256 bs → bytes_of (length bs) (number_from_digits_after 256 a bs) ≡ bs
+bytes_number : (a : ℕ) (bs : List ℕ) → AllBelowBase 256 bs → bytes_of (length bs) (number_from_digits_after 256 a bs) ≡ bs
 bytes_number a [] u = refl
 bytes_number a (d ∷ ds) u =
     let k : ℕ = 8 * length ds in
@@ -121,53 +118,9 @@ fits_read (w ∷ ws) bs u l =
     let m : length t ≡ w = length-take-le w bs (omega arith) in
     (subst (λ (k : ℕ). number_from_digits 256 t < 2 ^ (8 * k)) m (below t (under_take w bs u)), fits_read ws (drop w bs) (under_drop w bs u) (length-drop w bs ∙ omega arith))
 
--- the bytes at a place, one by one
-pub next_at : (n : ℕ) (bs : List ℕ) (at : ℕ) → at < length bs → take (suc n) (drop at bs) ≡ get_or bs at 0 ∷ take n (drop (at + 1) bs)
-next_at n bs at h = ap (take (suc n)) (drop_more bs at 0 h)
-
-pub four_at : (bs : List ℕ) (at : ℕ) → at + 4 ≤ length bs → take 4 (drop at bs) ≡ get_or bs at 0 ∷ get_or bs (at + 1) 0 ∷ get_or bs (at + 2) 0 ∷ get_or bs (at + 3) 0 ∷ []
-four_at bs at h =
-    let e1 : at + 1 + 1 ≡ at + 2 = omega arith in
-    let e2 : at + 2 + 1 ≡ at + 3 = omega arith in
-    next_at 3 bs at (omega arith)
-    ∙ ap (λ (l : List ℕ). get_or bs at 0 ∷ l) (next_at 2 bs (at + 1) (omega arith) ∙ ap (λ (x : ℕ). get_or bs (at + 1) 0 ∷ take 2 (drop x bs)) e1)
-    ∙ ap (λ (l : List ℕ). get_or bs at 0 ∷ get_or bs (at + 1) 0 ∷ l) (next_at 1 bs (at + 2) (omega arith) ∙ ap (λ (x : ℕ). get_or bs (at + 2) 0 ∷ take 1 (drop x bs)) e2)
-    ∙ ap (λ (l : List ℕ). get_or bs at 0 ∷ get_or bs (at + 1) 0 ∷ get_or bs (at + 2) 0 ∷ l) (next_at 0 bs (at + 3) (omega arith))
-
--- a number in two parts
-take_add : (j k : ℕ) (l : List ℕ) → take (j + k) l ≡ take j l ++ take k (drop j l)
-take_add j k l =
-    let t = take (j + k) l in
-    sym (take-append-drop j t) ∙ ap (λ (x : List ℕ). x ++ drop j t) (take-take j (j + k) l (omega arith)) ∙ ap (λ (x : List ℕ). take j l ++ x) (drop-take j k l)
-
-pub number_add : (j k : ℕ) (l : List ℕ) → j + k ≤ length l → number_from_digits 256 (take (j + k) l) ≡ number_from_digits 256 (take j l) * 2 ^ (8 * k) + number_from_digits 256 (take k (drop j l))
-number_add j k l h =
-    let r = take k (drop j l) in
-    let e : length r ≡ k = length-take-le k (drop j l) (let d = length-drop j l in omega arith) in
-    ap (number_from_digits 256) (take_add j k l) ∙ number_after_append 256 0 (take j l) r ∙ after_is (number_from_digits 256 (take j l)) r
-    ∙ ap (λ (x : ℕ). number_from_digits 256 (take j l) * 2 ^ (8 * x) + number_from_digits 256 r) e
-
--- so many bytes from a place on are within, or not
-pub is_within : (at n : ℕ) (bs : List ℕ) → at + n ≤ length bs → within at n bs ≡ true
+-- so many bytes from a place on are within
+is_within : (at n : ℕ) (bs : List ℕ) → at + n ≤ length bs → within at n bs ≡ true
 is_within at n bs h = ap not (le-ltb (length bs) (at + n) h)
-
-pub not_within : (at n : ℕ) (bs : List ℕ) → length bs < at + n → within at n bs ≡ false
-not_within at n bs h = ap not (lt-ltb (length bs) (at + n) h)
-
-pub field_is : (w at : ℕ) (bs : List ℕ) → at + w ≤ length bs → field_at w at bs ≡ Some (number_from_digits 256 (take w (drop at bs)))
-field_is w at bs h = cond-true _ _ _ (is_within at w bs h)
 
 pub over_is : (at : ℕ) (bs out : List ℕ) → at + length bs ≤ length out → over at bs out ≡ take at out ++ (bs ++ drop (at + length bs) out)
 over_is at bs out h = cond-true _ _ _ (is_within at (length bs) out h)
-
--- what a field that is there says
-pub record Found (w at : ℕ) (bs : List ℕ) (v : ℕ) : Type 0 where
-  pub fits : at + w ≤ length bs
-  pub value : v ≡ number_from_digits 256 (take w (drop at bs))
-
-pub found : (w at : ℕ) (bs : List ℕ) (v : ℕ) → Some v ≡ field_at w at bs → Found w at bs v
-found w at bs v e =
-    ⊎_elim
-    (λ short. let f = e ∙ cond-false _ _ _ (not_within at w bs short) in let z : ◌≡◌ {A = ℕ} 0 1 = cc in absurd (omega arith))
-    (λ fits. let f = e ∙ field_is w at bs fits in record { fits = fits; value = cc })
-    (cases_lt (length bs) (at + w))

@@ -2,7 +2,7 @@
 
 #![tactic(auto)]
 
-ghost use Rattle.std.specs.Prelude.{◌≡◌, ◌+◌, [], ◌∷◌, length};
+ghost use Rattle.std.specs.Prelude.{◌≡◌, ◌+◌, ℕ, [], ◌∷◌, length, option_map};
 ghost use Rattle.layout.specs.Layout.{laid, Long, Bytes, Again, Only, FitsRead};
 ghost use Rattle.layout.specs.Bodies.{put_widths, commit_widths, version_widths, version_in};
 ghost use Rattle.layout.specs.Places.{within, field_at, over};
@@ -18,23 +18,43 @@ pub fn layouts_stand() -> u8
     0
 }
 
-// The number in the four bytes at a place, absent where they are not all there.
-pub fn u32_at(bytes: &[u8], at: usize) -> Option<u32>
-    ensures { result ≡ field_at 4 at bytes.now }
-{
-    if bytes.len() < 4 || at > bytes.len() - 4 {
-        return None;
-    }
-    Some(u32::from_be_bytes([bytes[at], bytes[at + 1], bytes[at + 2], bytes[at + 3]]))
+// A number that is laid as bytes, high byte first.
+pub trait Number: Sized {
+    // How many bytes it takes.
+    ghost width: { ℕ };
+
+    ghost value: { Self → ℕ };
+
+    // The number in the first bytes, absent where they are too few.
+    fn first(bytes: &[u8]) -> Option<Self>
+        ensures { option_map value result ≡ field_at width 0 bytes.now };
 }
 
-// The number in the eight bytes at a place, absent where they are not all there.
-pub fn u64_at(bytes: &[u8], at: usize) -> Option<u64>
-    ensures { result ≡ field_at 8 at bytes.now }
+impl Number for u32 {
+    ghost width = { 4 };
+
+    ghost value = { λ n. n };
+
+    fn first(bytes: &[u8]) -> Option<u32> {
+        Some(u32::from_be_bytes(*bytes.first_chunk()?))
+    }
+}
+
+impl Number for u64 {
+    ghost width = { 8 };
+
+    ghost value = { λ n. n };
+
+    fn first(bytes: &[u8]) -> Option<u64> {
+        Some(u64::from_be_bytes(*bytes.first_chunk()?))
+    }
+}
+
+// The number in the bytes at a place, absent where they are not all there.
+pub fn number_at<T: Number>(bytes: &[u8], at: usize) -> Option<T>
+    ensures { option_map T.value result ≡ field_at T.width at bytes.now }
 {
-    let high = u32_at(bytes, at)?;
-    let low = u32_at(bytes, at + 4)?;
-    Some(u64::from(high) * 4_294_967_296 + u64::from(low))
+    T::first(bytes.get(at..)?)
 }
 
 // Lays bytes over those at a place, and leaves the others; where they do not fit, answers no and leaves all.
@@ -42,12 +62,14 @@ pub fn lay_at(out: &mut [u8], at: usize, bytes: &[u8]) -> bool
     ensures answer { result ≡ within at (length bytes.now) out.old }
     ensures after { out.new ≡ over at bytes.now out.old }
 {
-    if out.len() < bytes.len() || at > out.len() - bytes.len() {
+    let Some(end) = at.checked_add(bytes.len()) else {
+        return false;
+    };
+    if end > out.len() {
         return false;
     }
-    let end = at + bytes.len();
-    let part = &mut out[at..end];
-    part.copy_from_slice(bytes);
+    // No `get_mut(at..end)`: behind it a proof knows the slice's length and none of its bytes.
+    out[at..end].copy_from_slice(bytes);
     true
 }
 
@@ -56,12 +78,11 @@ pub fn version_body(version: (u32, u64, u64)) -> [u8; 20]
     ensures { result ≡ laid version_widths (version.0 ∷ version.1 ∷ version.2 ∷ []) }
 {
     let (stamp, code, mark) = version;
-    let [s0, s1, s2, s3] = stamp.to_be_bytes();
-    let [c0, c1, c2, c3, c4, c5, c6, c7] = code.to_be_bytes();
-    let [m0, m1, m2, m3, m4, m5, m6, m7] = mark.to_be_bytes();
-    [
-        s0, s1, s2, s3, c0, c1, c2, c3, c4, c5, c6, c7, m0, m1, m2, m3, m4, m5, m6, m7,
-    ]
+    let mut body = [0; 20];
+    body[..4].copy_from_slice(&stamp.to_be_bytes());
+    body[4..12].copy_from_slice(&code.to_be_bytes());
+    body[12..].copy_from_slice(&mark.to_be_bytes());
+    body
 }
 
 // The body of a put: item, stamp, code, mark.
@@ -77,8 +98,9 @@ pub fn put_body(item: u8, stamp: u32, code: u64, mark: u64) -> [u8; 21]
 pub fn commit_body(item: u8, stamp: u32) -> [u8; 5]
     ensures { result ≡ laid commit_widths (item ∷ stamp ∷ []) }
 {
-    let [s0, s1, s2, s3] = stamp.to_be_bytes();
-    [item, s0, s1, s2, s3]
+    let mut body = [item; 5];
+    body[1..].copy_from_slice(&stamp.to_be_bytes());
+    body
 }
 
 // The version in twenty bytes, absent for any other number of bytes.
@@ -88,5 +110,9 @@ pub fn version_of(bytes: &[u8]) -> Option<(u32, u64, u64)>
     if bytes.len() != 20 {
         return None;
     }
-    Some((u32_at(bytes, 0)?, u64_at(bytes, 4)?, u64_at(bytes, 12)?))
+    Some((
+        number_at(bytes, 0)?,
+        number_at(bytes, 4)?,
+        number_at(bytes, 12)?,
+    ))
 }

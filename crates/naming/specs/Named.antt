@@ -1,9 +1,11 @@
--- The marks of the list rule and of the filter rule name what they were made from.
+-- The three rules keep the law: a mark names what it was made from, and never item 0.
 use Rattle.std.specs.Prelude.{◌≡◌, ℕ, zero, suc, ◌/◌, ◌%◌, ◌^◌, ◌<◌, true, List, [], ◌∷◌, length, fold, bit_or, slice_index, refl}
 use Rattle.std.proofs.Common.{ap, ◌∙◌, inl, inr, one-mul, arith}
 use Rattle.std.proofs.lemmas.Nat.{or_shr, or_mod, or_comm, shl-shr}
 use Rattle.std.proofs.lemmas.Bool.{eqb-true, eq-eqb, lt-ltb, and_from, or_left, or_right, cases_eq}
-use Rattle.naming.specs.Marks.{has_bit, bits_of, filter_mark, filter_names, has, bytes_of, list_mark, list_names}
+use Rattle.blend.specs.Lists.{has}
+use Rattle.protocol.specs.Naming.{Lawful}
+use Rattle.naming.specs.Marks.{has_bit, bits_of, filter_mark, filter_names, filter_rule, stamp_rule, bytes_of, list_mark, list_names, list_rule}
 
 -- a bit that is set in a is set in `a | b`
 or_one : (x y : ℕ) → x % 2 ≡ 1 → bit_or x y % 2 ≡ 1
@@ -84,3 +86,12 @@ pub list_complete : (xs : List ℕ) (k : ℕ) → length xs ≡ 8 → ((j : ℕ)
     → list_names (list_mark xs) (slice_index xs k) ≡ true
 list_complete xs k l t h =
     and_from _ _ (lt-ltb 0 (slice_index xs k) h) (ap (has (slice_index xs k)) (list_bytes xs l t) ∙ has_at xs k h)
+
+pub list_lawful : Lawful list_rule
+list_lawful = record { complete = λ items long bytes k h. list_complete items k long bytes h; nonzero = λ mark. refl }
+
+pub filter_lawful : Lawful filter_rule
+filter_lawful = record { complete = λ items long bytes k h. filter_complete items k h; nonzero = λ mark. refl }
+
+pub stamp_lawful : Lawful stamp_rule
+stamp_lawful = record { complete = λ items long bytes k h. lt-ltb 0 (slice_index items k) h; nonzero = λ mark. refl }

@@ -1,8 +1,7 @@
 // The filter rule: the mark is a Bloom filter of 64 bits, in which each item sets two.
-ghost use Rattle.std.specs.Prelude.{◌≡◌, ◌<◌, false};
-ghost use Rattle.naming.specs.Marks.{bits_of, has_bit, filter_mark, filter_names};
-ghost use Rattle.naming.specs.Named.{filter_complete};
-ghost use Rattle.std.proofs.Common.{rules};
+ghost use Rattle.std.specs.Prelude.{◌≡◌, ◌<◌};
+ghost use Rattle.naming.specs.Marks.{bits_of, has_bit, filter_rule};
+ghost use Rattle.naming.specs.Named.{filter_lawful};
 
 use super::rule::Naming;
 
@@ -28,22 +27,12 @@ fn is_set(mark: u64, bit: u8) -> bool
 }
 
 impl Naming for FilterRule {
-    ghost marks = { filter_mark };
+    ghost rule = { filter_rule };
 
-    ghost named = { filter_names };
-
-    ghost twice = { false };
-
-    ghost complete = { λ items long bytes k h. filter_complete items k h };
-
-    ghost nonzero = { Prim.search rules };
+    ghost lawful = { filter_lawful };
 
     fn mark(items: [u8; 8]) -> u64 {
-        let mut mark = 0u64;
-        for item in items {
-            mark |= bits(item);
-        }
-        mark
+        items.iter().fold(0, |mark, item| mark | bits(*item))
     }
 
     fn names(mark: u64, item: u8) -> bool {

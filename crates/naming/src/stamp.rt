@@ -1,7 +1,6 @@
 // The stamp rule: marks say nothing, so every item may be named, and a read always asks twice.
-ghost use Rattle.std.specs.Prelude.{true};
-ghost use Rattle.naming.specs.Marks.{stamp_mark, stamp_names};
-ghost use Rattle.std.proofs.Common.{rules};
+ghost use Rattle.naming.specs.Marks.{stamp_rule};
+ghost use Rattle.naming.specs.Named.{stamp_lawful};
 
 use super::rule::Naming;
 
@@ -9,15 +8,9 @@ use super::rule::Naming;
 pub struct StampRule;
 
 impl Naming for StampRule {
-    ghost marks = { stamp_mark };
+    ghost rule = { stamp_rule };
 
-    ghost named = { stamp_names };
-
-    ghost twice = { true };
-
-    ghost complete = { Prim.search rules };
-
-    ghost nonzero = { Prim.search rules };
+    ghost lawful = { stamp_lawful };
 
     fn mark(_items: [u8; 8]) -> u64 {
         0

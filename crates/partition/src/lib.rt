@@ -35,6 +35,7 @@ impl<A: Store, B: Store> Partition<A, B> {
     }
 }
 
+// Each call names both stores: they are of two types, no function may hand out a `dyn Store`, and a local one would be no shorter.
 impl<A: Store, B: Store> Store for Partition<A, B> {
     ghost view = { partition_view A.Store.view B.Store.view };
 

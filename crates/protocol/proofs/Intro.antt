@@ -3,7 +3,7 @@ use Rattle.std.proofs.Common.{◌≡◌, ℕ, ◌+◌, ◌*◌, ◌<◌, ◌≤�
 use mathlib.Core.Path.{fun_ext}
 use Rattle.std.proofs.lemmas.Bool.{le-ltb, lt-leb, le-leb, ne_eqb, eq-eqb}
 use Rattle.blend.specs.Refusals.{first_of}
-use Rattle.store.specs.Meaning.{View, Version}
+use Rattle.store.specs.Meaning.{View, Version, later_version}
 use Rattle.store.specs.Tests.{put_tests, commit_tests, question_tests}
 use Rattle.store.specs.Outcomes.{Same}
 use Rattle.protocol.specs.Naming.{Naming, Bytes, mark_for}
@@ -11,7 +11,7 @@ use Rattle.protocol.specs.Calls.{file, prepare, commit, close, withdraw, by_writ
 use Rattle.protocol.specs.State.{OpenOrder, OpenRead, State, the_read}
 use Rattle.protocol.specs.Asks.{progress, finished, all_made, due_second, asks_made}
 use Rattle.protocol.specs.Refusals.{bad_size, bad_items, unfit, item_at, code_at, all_prepared, complete, read_item}
-use Rattle.protocol.specs.Step.{Step, Prepares, Commits, filed_row, with_order, set_writer, set_reader, fresh_read, first_asked, second_asked, first_version, second_version, later_version}
+use Rattle.protocol.specs.Step.{Step, Prepares, Commits, filed_row, with_order, set_writer, set_reader, fresh_read, first_asked, second_asked, first_version, second_version}
 
 -- a store of which nothing has changed
 pub same_store : (v w : View) → Same v w → w ≡ v

@@ -3,11 +3,11 @@ use Rattle.std.proofs.Common.{◌≡◌, ℕ, suc, ◌<◌, true, false, ◌⊎�
 use Rattle.std.proofs.lemmas.Bool.{cases_eq, cases_Bool, cond-true, cond-false}
 use Rattle.blend.specs.Stamps.{later}
 use Rattle.blend.proofs.Order.{never_itself, later_real, not_both, not_later_on}
-use Rattle.store.specs.Meaning.{Version}
+use Rattle.store.specs.Meaning.{Version, later_version}
 use Rattle.protocol.specs.Naming.{Naming, Lawful, mark_for}
 use Rattle.protocol.specs.State.{upd, Order, OpenRead, State}
 use Rattle.protocol.specs.Asks.{wanted, stamp_in, mark_in, DueFirst, DueSecond, progress, asks_made}
-use Rattle.protocol.specs.Step.{fresh_read, first_asked, later_version, second_asked}
+use Rattle.protocol.specs.Step.{fresh_read, first_asked, second_asked}
 use Rattle.protocol.specs.History.{History, Ordered, Lists}
 use Rattle.protocol.proofs.Basics.{upd_at, upd_off, at_upd, upd_ext, never, true_false, inside, none_of, some_of, count_same, count_more}
 use Rattle.protocol.proofs.Tests.{Listed}

@@ -6,14 +6,14 @@ use Rattle.std.proofs.lemmas.Bool.{cases_eq, cases_Bool, and_from, not_from_fals
 use Rattle.blend.specs.Refusals.{first_of}
 use Rattle.blend.specs.Stamps.{later}
 use Rattle.blend.proofs.Order.{one_of_two, not_later_on}
-use Rattle.store.specs.Meaning.{Version}
+use Rattle.store.specs.Meaning.{Version, later_version}
 use Rattle.store.specs.Tests.{question_tests}
 use Rattle.protocol.specs.Naming.{Naming, Lawful, mark_for}
 use Rattle.protocol.specs.Calls.{Call, by_reader, first_ask, second_ask, take, release, Answer, refused, accepted}
 use Rattle.protocol.specs.State.{Order, OpenRead, State, the_read, read_of}
 use Rattle.protocol.specs.Asks.{Progress, wanted, AsksAgain, DueFirst, DueSecond, Finished, stamp_in, mark_in, progress, asks_made}
 use Rattle.protocol.specs.Refusals.{read_item}
-use Rattle.protocol.specs.Step.{Step, set_reader, first_asked, second_asked, later_version, first_version, second_version}
+use Rattle.protocol.specs.Step.{Step, set_reader, first_asked, second_asked, first_version, second_version}
 use Rattle.protocol.specs.History.{History, Ordered, Lists, mark_of, Read, current_read, progress_in, or_zero}
 use Rattle.protocol.specs.Law.{Trace, start, next, Next, Accepted, Accepts, Due, AsLate, Whole, ReadsStayWhole}
 use Rattle.protocol.proofs.Basics.{never, true_false, inside, some_of, count_most}

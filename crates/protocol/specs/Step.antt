@@ -1,7 +1,6 @@
 -- What a call may answer from a state, and the state after it.
-use Rattle.std.specs.Prelude.{◌≡◌, ℕ, ◌+◌, ◌*◌, Bool, true, false, cond, List, length, Some, None, Option}
-use Rattle.blend.specs.Stamps.{later}
-use Rattle.store.specs.Meaning.{View, Version, blank, last_version, picked}
+use Rattle.std.specs.Prelude.{◌≡◌, ℕ, ◌+◌, ◌*◌, Bool, true, false, List, length, Some, None, Option}
+use Rattle.store.specs.Meaning.{View, Version, blank, later_version, last_version, picked}
 use Rattle.store.specs.Outcomes.{PutDone, CommitDone, one_if}
 use Rattle.protocol.specs.Naming.{Naming, Bytes, mark_for}
 use Rattle.protocol.specs.Calls.{file, prepare, commit, close, withdraw, open_read, first_ask, second_ask, take, release, Call, by_writer, by_reader, Answer, refused, accepted}
@@ -36,9 +35,6 @@ fresh_read items = record { items = items; first = λ p. None; again = λ p. fal
 
 abbrev pub first_asked : OpenRead → ℕ → Version → OpenRead
 first_asked x p v = record { items = x.items; first = upd x.first p (Some v); again = x.again; kept = upd x.kept p v }
-
-abbrev pub later_version : Version → Version → Version
-later_version u v = cond (later v.0 u.0) v u
 
 abbrev pub second_asked : OpenRead → ℕ → Version → OpenRead
 second_asked x p v = record {

@@ -7,7 +7,7 @@ ghost use Rattle.store.specs.Outcomes.{Same};
 ghost use Rattle.quota.specs.Limit.{limited, quota_view};
 ghost use Rattle.std.proofs.Common.{rules};
 
-use store::{Store, StoreFault, held_at};
+use store::{Store, StoreFault, check_version, held_at, is_new};
 
 #[derive(Drop)]
 pub struct Quota<S> {
@@ -25,16 +25,9 @@ impl<S: Store> Quota<S> {
         Quota {
             below,
             limit,
-            counts: zeros(),
+            counts: [0; 256],
         }
     }
-}
-
-// Nothing is put yet.
-fn zeros() -> [u32; 256]
-    ensures { (i : ℕ) → get_or result i 0 ≡ 0 }
-{
-    [0; 256]
 }
 
 impl<S: Store> Store for Quota<S> {
@@ -43,34 +36,17 @@ impl<S: Store> Store for Quota<S> {
     ghost last_held = { Prim.search rules };
 
     fn put(&mut self, item: u8, stamp: u32, code: u64, mark: u64) -> Result<bool, StoreFault> {
-        if item == 0 {
-            return Err(StoreFault::NoItem);
-        }
-        if stamp == 0 {
-            return Err(StoreFault::NoStamp);
-        }
-        let at = item as usize;
+        check_version(item, stamp)?;
+        let at = usize::from(item);
         if self.counts[at] < self.limit {
-            match self.below.put(item, stamp, code, mark) {
-                Ok(fresh) => {
-                    if fresh {
-                        self.counts[at] += 1;
-                    }
-                    Ok(fresh)
-                }
-                Err(fault) => Err(fault),
-            }
+            let fresh = self.below.put(item, stamp, code, mark)?;
+            self.counts[at] += u32::from(fresh);
+            return Ok(fresh);
+        }
+        if is_new(held_at(&self.below, item, stamp), code, mark)? {
+            Err(StoreFault::Full)
         } else {
-            match held_at(&self.below, item, stamp) {
-                None => Err(StoreFault::Full),
-                Some((c, m)) => {
-                    if c == code && m == mark {
-                        Ok(false)
-                    } else {
-                        Err(StoreFault::Clash)
-                    }
-                }
-            }
+            Ok(false)
         }
     }
 

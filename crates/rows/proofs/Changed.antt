@@ -1,24 +1,75 @@
 -- What a changed row means.
-use Rattle.std.proofs.Common.{◌≡◌, ℕ, zero, suc, ◌<◌, ◌≤◌, Bool, true, false, cond, List, length, get_or, take, set, replicate, Some, None, Option, sym, refl, ap, ◌∙◌, arith}
+use Rattle.std.proofs.Common.{◌≡◌, ℕ, zero, suc, ◌<◌, ◌≤◌, min, true, false, List, [], ◌∷◌, length, get_or, take, set, Some, None, Option, inl, inr, sym, refl, ap, ◌∙◌, arith}
 use mathlib.Core.Path.{fun_ext}
+use mathlib.Core.List.{map}
 use Rattle.std.specs.Option.{option_map}
-use Rattle.std.proofs.lemmas.List.{take_all, get_or-set_same, get_or-set_other}
-use Rattle.store.specs.Meaning.{Version, blank}
+use Rattle.std.proofs.lemmas.List.{take-map, map-set, set-get_or, get_or-map, get_or-take, get_or-set_same, get_or-set_other, get_or_past, ext_get_or, length-take}
+use Rattle.std.proofs.lemmas.Bool.{cases_eq, cases_lt}
+use Rattle.store.specs.Meaning.{Version, blank, later_version}
 use Rattle.protocol.specs.State as protocol
-use Rattle.protocol.specs.Step.{filed_row, with_order, fresh_read, first_asked, second_asked, later_version}
-use Rattle.protocol.proofs.Basics.{upd_set, upd_from}
-use Rattle.rows.specs.declared.items.Items.{Items}
+use Rattle.protocol.specs.Naming.{padded}
+use Rattle.protocol.specs.Step.{filed_row, with_order, prepared_at, committed_at, fresh_read, first_asked, second_asked}
+use Rattle.protocol.proofs.Basics.{upd_set}
+use Rattle.rows.specs.declared.order.OrderPlace.{OrderPlace}
 use Rattle.rows.specs.declared.order.OpenOrder.{OpenOrder}
 use Rattle.rows.specs.declared.order.OrderRow.{OrderRow}
+use Rattle.rows.specs.declared.read.ReadPlace.{ReadPlace}
 use Rattle.rows.specs.declared.read.OpenRead.{OpenRead}
-use Rattle.rows.specs.Places.{filled}
-use Rattle.rows.specs.Rows.{listed, flag, order_in, row_of, version_at, first_at, read_in}
-use Rattle.rows.proofs.Laid.{take_filled}
+use Rattle.rows.specs.Places.{in_eight, filed_place, opened_place}
+use Rattle.rows.specs.OrderCalls.{prepared_in, committed_in}
+use Rattle.rows.specs.Rows.{no_order_place, no_read_place, order_place, order_in, row_of, read_place, read_in}
+use Rattle.rows.proofs.Below.{length_listed}
 
-pub same_all : {A : Type 0} (n k : ℕ) (d : A) → get_or (replicate n d) k d ≡ d
-same_all zero k d = refl
-same_all (suc n) zero d = refl
-same_all (suc n) (suc k) d = same_all n k d
+-- ── a list of places ──
+
+module _ {A : Type 0} (l : List A) (p : ℕ) (y d : A) (low : p < length l) where
+  -- what a place keeps, as it is read and as it is listed
+  pub read_same : {B : Type 0} (f : A → B) → f y ≡ f (get_or l p d) → ◌≡◌ {A = ℕ → B} (λ k. f (get_or (set l p y) k d)) (λ k. f (get_or l k d))
+  read_same f e = fun_ext (λ k. elim (cases_eq k p) [
+    | inl s ↦ ap (λ j. f (get_or (set l p y) j d)) s ∙ ap f (get_or-set_same l p y d low) ∙ e ∙ ap (λ j. f (get_or l j d)) (sym s)
+    | inr s ↦ ap f (get_or-set_other l p k y d s)
+  ])
+
+  pub listed_same : (f : A → ℕ) (n : ℕ) → f y ≡ f (get_or l p d) → map f (take n (set l p y)) ≡ map f (take n l)
+  listed_same f n e =
+      let at : f y ≡ get_or (map f l) p 0 = e ∙ sym (get_or-map f l p d 0 low) in
+      sym (take-map f n (set l p y)) ∙ ap (take n) (map-set f l p y ∙ ap (set (map f l) p) at ∙ set-get_or (map f l) p 0) ∙ take-map f n l
+
+module _ {A : Type 0} where
+  -- a list of n by index
+  abbrev tabled : ℕ → (ℕ → A) → List A
+  tabled zero f = []
+  tabled (suc n) f = f 0 ∷ tabled n (λ k. f (suc k))
+
+  at_tabled : (n : ℕ) (f : ℕ → A) (d : A) (k : ℕ) → k < n → get_or (tabled n f) k d ≡ f k
+  at_tabled zero f d k u = absurd (omega arith)
+  at_tabled (suc n) f d zero u = refl
+  at_tabled (suc n) f d (suc k) u = at_tabled n (λ j. f (suc j)) d k (omega arith)
+
+padded_tabled : (n : ℕ) (l : List ℕ) → tabled n (λ k. get_or l k 0) ≡ padded n l
+padded_tabled zero l = refl
+padded_tabled (suc n) [] = ap (λ (z : List ℕ). 0 ∷ z) (padded_tabled n [])
+padded_tabled (suc n) (y ∷ l) = ap (λ (z : List ℕ). y ∷ z) (padded_tabled n l)
+
+pub padded_eight : (l : List ℕ) → in_eight (λ k. get_or l k 0) ≡ padded 8 l
+padded_eight l = padded_tabled 8 l
+
+-- places that were laid out from a list
+pub listed_laid : {A : Type 0} (f : A → ℕ) (d : A) (l : List A) (xs : List ℕ) (n : ℕ) → n ≡ length xs → n ≤ 8 → length l ≡ 8 →
+    ((k : ℕ) → k < 8 → f (get_or l k d) ≡ get_or xs k 0) → map f (take n l) ≡ xs
+listed_laid f d l xs n e few long at =
+    let m = length_listed f n l few long in
+    let t = length-take n l in
+    ext_get_or 0 (map f (take n l)) xs (m ∙ e) (λ k u.
+    let v : k < n = omega (arith, m) in
+    get_or-map f (take n l) k d 0 (omega (arith, v, t, few, long)) ∙ ap f (get_or-take n l k d v) ∙ at k (omega (arith, v, few)))
+
+pub read_all : {A B : Type 0} (l : List A) (d : A) (f : A → B) (b : B) → length l ≡ 8 → f d ≡ b → ((k : ℕ) → k < 8 → f (get_or l k d) ≡ b) →
+    ◌≡◌ {A = ℕ → B} (λ k. f (get_or l k d)) (λ k. b)
+read_all l d f b long e at =
+    fun_ext (λ k. elim (cases_lt k 8) [ inl u ↦ at k u | inr u ↦ ap f (get_or_past l k d (omega (arith, u, long))) ∙ e ])
+
+-- ── orders ──
 
 -- a row of which only the open order has changed
 pub order_changed : (w : ℕ) (row : OrderRow) (x y : OpenOrder) (f : protocol.OpenOrder → protocol.OpenOrder) →
@@ -28,68 +79,121 @@ order_changed w row x y f is e =
     ap (λ (z : protocol.OpenOrder). record { sequence = row.sequence; current = Some z }) e ∙
     sym (ap (λ (o : Option OpenOrder). record { sequence = row.sequence; current = option_map f (option_map (order_in w) o) }) is)
 
+module _ (w : ℕ) (row : OrderRow) (x : OpenOrder) (p : ℕ) (low : p < length x.places) where
+  abbrev old : OrderPlace
+  old = order_place x p
+
+  order_prepared : (few : x.count ≤ 8) → let y : OrderPlace = record { item = old.item; code = old.code; prepared = true; committed = old.committed } in
+      order_in w (record { places = set x.places p y; count = x.count; stamp = x.stamp; few = few }) ≡ prepared_at (order_in w x) p
+  order_prepared few =
+      let y : OrderPlace = record { item = old.item; code = old.code; prepared = true; committed = old.committed } in
+      λ i. record {
+        order = record {
+          writer = w;
+          items = listed_same x.places p y no_order_place low (λ z. z.item) x.count refl i;
+          codes = listed_same x.places p y no_order_place low (λ z. z.code) x.count refl i;
+          stamp = x.stamp;
+        };
+        prepared = upd_set (λ z. z.prepared) x.places p y no_order_place low i;
+        committed = read_same x.places p y no_order_place low (λ z. z.committed) refl i;
+      }
+
+  order_committed : (few : x.count ≤ 8) → let y : OrderPlace = record { item = old.item; code = old.code; prepared = old.prepared; committed = true } in
+      order_in w (record { places = set x.places p y; count = x.count; stamp = x.stamp; few = few }) ≡ committed_at (order_in w x) p
+  order_committed few =
+      let y : OrderPlace = record { item = old.item; code = old.code; prepared = old.prepared; committed = true } in
+      λ i. record {
+        order = record {
+          writer = w;
+          items = listed_same x.places p y no_order_place low (λ z. z.item) x.count refl i;
+          codes = listed_same x.places p y no_order_place low (λ z. z.code) x.count refl i;
+          stamp = x.stamp;
+        };
+        prepared = read_same x.places p y no_order_place low (λ z. z.prepared) refl i;
+        committed = upd_set (λ z. z.committed) x.places p y no_order_place low i;
+      }
+
+  pub row_prepared : (few : x.count ≤ 8) → row.current ≡ Some x → let y : OrderPlace = record { item = old.item; code = old.code; prepared = true; committed = old.committed } in
+      row_of w (record { sequence = row.sequence; current = Some (record { places = set x.places p y; count = x.count; stamp = x.stamp; few = few }) }) ≡
+      with_order (row_of w row) (prepared_in (row_of w row).current p)
+  row_prepared few is =
+      let y : OrderPlace = record { item = old.item; code = old.code; prepared = true; committed = old.committed } in
+      order_changed w row x (record { places = set x.places p y; count = x.count; stamp = x.stamp; few = few }) (λ z. prepared_at z p) is (order_prepared few)
+
+  pub row_committed : (few : x.count ≤ 8) → row.current ≡ Some x → let y : OrderPlace = record { item = old.item; code = old.code; prepared = old.prepared; committed = true } in
+      row_of w (record { sequence = row.sequence; current = Some (record { places = set x.places p y; count = x.count; stamp = x.stamp; few = few }) }) ≡
+      with_order (row_of w row) (committed_in (row_of w row).current p)
+  row_committed few is =
+      let y : OrderPlace = record { item = old.item; code = old.code; prepared = old.prepared; committed = true } in
+      order_changed w row x (record { places = set x.places p y; count = x.count; stamp = x.stamp; few = few }) (λ z. committed_at z p) is (order_committed few)
+
 -- a row with a new order
-pub order_filed : (w q : ℕ) (x : Items) (places items codes : List ℕ) (t : ℕ) → listed x ≡ take 8 items → places ≡ filled 8 0 codes →
-    length items ≤ 8 → length codes ≡ length items →
-    row_of w (record { sequence = q; current = Some (record { items = x; codes = places; stamp = t; prepared = replicate 8 false; committed = replicate 8 false }) }) ≡
-    filed_row w q items codes t
-order_filed w q x places items codes t e f few same =
-    let all : listed x ≡ items = e ∙ take_all 8 items few in
-    let given : take (length (listed x)) places ≡ codes =
-    ap (λ (n : ℕ). take n places) (ap length all ∙ sym same) ∙ ap (take (length codes)) f ∙
-    take_filled 0 8 (length codes) codes (omega arith) (omega arith) ∙ take_all (length codes) codes (omega arith)
+pub order_filed : (w q t n : ℕ) (l : List OrderPlace) (items codes : List ℕ) (low : n ≤ 8) → n ≡ min (length items) 8 →
+    length items ≤ 8 → length codes ≡ length items → l ≡ in_eight (filed_place items codes) →
+    row_of w (record { sequence = q; current = Some (record { places = l; count = n; stamp = t; few = low }) }) ≡ filed_row w q items codes t
+order_filed w q t n l items codes low m few same e =
+    let long : length l ≡ 8 = ap length e in
+    let at : (k : ℕ) → k < 8 → get_or l k no_order_place ≡ filed_place items codes k =
+    λ k u. ap (λ (z : List OrderPlace). get_or z k no_order_place) e ∙ at_tabled 8 (filed_place items codes) no_order_place k u
     in
     λ i. record {
       sequence = q;
       current = Some (record {
-        order = record { writer = w; items = all i; codes = given i; stamp = t };
-        prepared = fun_ext (λ k. same_all 8 k false) i;
-        committed = fun_ext (λ k. same_all 8 k false) i;
+        order = record {
+          writer = w;
+          items = listed_laid (λ z. z.item) no_order_place l items n (omega (arith, m, few)) low long (λ k u. ap (λ (z : OrderPlace). z.item) (at k u)) i;
+          codes = listed_laid (λ z. z.code) no_order_place l codes n (omega (arith, m, few, same)) low long (λ k u. ap (λ (z : OrderPlace). z.code) (at k u)) i;
+          stamp = t;
+        };
+        prepared = read_all l no_order_place (λ z. z.prepared) false long refl (λ k u. ap (λ (z : OrderPlace). z.prepared) (at k u)) i;
+        committed = read_all l no_order_place (λ z. z.committed) false long refl (λ k u. ap (λ (z : OrderPlace). z.committed) (at k u)) i;
       });
     }
 
 -- ── reads ──
 
-module _ (x : OpenRead) (p : ℕ) (v : Version) where
+module _ (x : OpenRead) (p : ℕ) (low : p < length x.places) (v : Version) (few : x.count ≤ 8) where
+  abbrev was : ReadPlace
+  was = read_place x p
+
   -- the first ask of a place is answered
-  pub first_set : p < length x.made → p < length x.firsts → p < length x.kept →
-      read_in (record { items = x.items; made = set x.made p true; firsts = set x.firsts p v; again = x.again; kept = set x.kept p v }) ≡
-      first_asked (read_in x) p v
-  first_set a b c =
-      let after : ℕ → Option Version = λ k. cond (flag (set x.made p true) k) (Some (version_at (set x.firsts p v) k)) None in
-      let firsts : after ≡ protocol.upd (first_at x) p (Some v) =
-      upd_from (first_at x) after p (Some v)
-      (rw (get_or-set_same x.made p true false a, get_or-set_same x.firsts p v blank b) refl)
-      (λ m d. rw (get_or-set_other x.made p m true false d, get_or-set_other x.firsts p m v blank d) refl)
-      in
+  pub first_set : let y : ReadPlace = record { item = was.item; first = Some v; again = was.again; kept = v } in
+      read_in (record { places = set x.places p y; count = x.count; few = few }) ≡ first_asked (read_in x) p v
+  first_set =
+      let y : ReadPlace = record { item = was.item; first = Some v; again = was.again; kept = v } in
       λ i. record {
-        items = listed x.items;
-        first = firsts i;
-        again = flag x.again;
-        kept = upd_set (λ (u : Version). u) x.kept p v blank c i;
+        items = listed_same x.places p y no_read_place low (λ z. z.item) x.count refl i;
+        first = upd_set (λ z. z.first) x.places p y no_read_place low i;
+        again = read_same x.places p y no_read_place low (λ z. z.again) refl i;
+        kept = upd_set (λ z. z.kept) x.places p y no_read_place low i;
       }
 
   -- the second ask of a place is answered, and u is kept there
-  pub second_set : (u : Version) → p < length x.again → p < length x.kept → u ≡ later_version (version_at x.kept p) v →
-      read_in (record { items = x.items; made = x.made; firsts = x.firsts; again = set x.again p true; kept = set x.kept p u }) ≡
-      second_asked (read_in x) p v
-  second_set u a c e =
-      let keeps : (λ k. version_at (set x.kept p u) k) ≡ protocol.upd (version_at x.kept) p (later_version (version_at x.kept p) v) =
-      upd_set (λ (z : Version). z) x.kept p u blank c ∙ ap (λ (z : Version). protocol.upd (version_at x.kept) p z) e
+  pub second_set : (u : Version) → u ≡ later_version was.kept v → let y : ReadPlace = record { item = was.item; first = was.first; again = true; kept = u } in
+      read_in (record { places = set x.places p y; count = x.count; few = few }) ≡ second_asked (read_in x) p v
+  second_set u e =
+      let y : ReadPlace = record { item = was.item; first = was.first; again = true; kept = u } in
+      let keeps : (λ k. (get_or (set x.places p y) k no_read_place).kept) ≡ protocol.upd (read_in x).kept p (later_version was.kept v) =
+      upd_set (λ z. z.kept) x.places p y no_read_place low ∙ ap (protocol.upd (read_in x).kept p) e
       in
       λ i. record {
-        items = listed x.items;
-        first = first_at x;
-        again = upd_set (λ (b : Bool). b) x.again p true false a i;
+        items = listed_same x.places p y no_read_place low (λ z. z.item) x.count refl i;
+        first = read_same x.places p y no_read_place low (λ z. z.first) refl i;
+        again = upd_set (λ z. z.again) x.places p y no_read_place low i;
         kept = keeps i;
       }
 
-pub read_opened : (x : Items) (items : List ℕ) → listed x ≡ take 8 items → length items ≤ 8 →
-    read_in (record { items = x; made = replicate 8 false; firsts = replicate 8 blank; again = replicate 8 false; kept = replicate 8 blank }) ≡
-    fresh_read items
-read_opened x items e few = λ i. record {
-  items = (e ∙ take_all 8 items few) i;
-  first = fun_ext (λ k. ap (λ (b : Bool). cond b (Some (version_at (replicate 8 blank) k)) None) (same_all 8 k false)) i;
-  again = fun_ext (λ k. same_all 8 k false) i;
-  kept = fun_ext (λ k. same_all 8 k blank) i;
-}
+-- a new read
+pub read_opened : (n : ℕ) (l : List ReadPlace) (items : List ℕ) (low : n ≤ 8) → n ≡ min (length items) 8 → length items ≤ 8 →
+    l ≡ in_eight (opened_place items) → read_in (record { places = l; count = n; few = low }) ≡ fresh_read items
+read_opened n l items low m few e =
+    let long : length l ≡ 8 = ap length e in
+    let at : (k : ℕ) → k < 8 → get_or l k no_read_place ≡ opened_place items k =
+    λ k u. ap (λ (z : List ReadPlace). get_or z k no_read_place) e ∙ at_tabled 8 (opened_place items) no_read_place k u
+    in
+    λ i. record {
+      items = listed_laid (λ z. z.item) no_read_place l items n (omega (arith, m, few)) low long (λ k u. ap (λ (z : ReadPlace). z.item) (at k u)) i;
+      first = read_all l no_read_place (λ z. z.first) None long refl (λ k u. ap (λ (z : ReadPlace). z.first) (at k u)) i;
+      again = read_all l no_read_place (λ z. z.again) false long refl (λ k u. ap (λ (z : ReadPlace). z.again) (at k u)) i;
+      kept = read_all l no_read_place (λ z. z.kept) blank long refl (λ k u. ap (λ (z : ReadPlace). z.kept) (at k u)) i;
+    }

@@ -1,5 +1,7 @@
 -- The number of each refusal of the service, and how a store's fault comes up.
 use Rattle.std.specs.Prelude.{◌≡◌, ℕ, Some, None, Ok, Err, Option, Result}
+use Rattle.blend.specs.declared.refusal.Refusal.{Refusal}
+use Rattle.blend.specs.declared.refusal.Refusal.TheVariants as plain_input
 use Rattle.store.specs.declared.StoreFault.{StoreFault}
 use Rattle.store.specs.Faults as store
 use Rattle.rows.specs.declared.fault.Fault.{Fault}
@@ -66,3 +68,11 @@ AboutItem i Kind = Unit {0}
 abbrev pub About : {X : Type 0} → ℕ → Result X Fault → Type 0
 About i (Ok x) = Unit {0}
 About i (Err f) = AboutItem i f
+
+-- a refusal of plain input, with the same number
+abbrev pub plain : Refusal → Fault
+plain plain_input.Writer = Writer
+plain plain_input.Sequence = Sequence
+plain plain_input.List = List
+plain plain_input.Item = Item
+plain plain_input.NoBody = NoBody

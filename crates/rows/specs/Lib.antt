@@ -1,6 +1,6 @@
 pub mod Faults
+pub mod Reasons
 pub mod Places
-pub mod Rules
 pub mod Rows
 pub mod OrderCalls
 pub mod ReadCalls

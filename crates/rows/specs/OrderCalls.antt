@@ -9,7 +9,6 @@ use Rattle.protocol.specs.Step.{prepared_at, committed_at}
 use Rattle.rows.specs.declared.order_changes.Placed.{Placed}
 use Rattle.rows.specs.declared.fault.Fault.{Fault}
 use Rattle.rows.specs.declared.fault.Fault.TheVariants.{Place}
-use Rattle.rows.specs.declared.fault.Fault.TheVariants as fault
 use Rattle.rows.specs.declared.order_calls.Stage.{Stage}
 use Rattle.rows.specs.declared.order_calls.Stage.TheVariants.{Idle, Gathering, Sealed, Complete}
 use Rattle.rows.specs.declared.order_calls.OrderCall.{OrderCall}
@@ -31,9 +30,6 @@ order_tests o Withdraw = (16, not (is_some o)) ∷ (20, all_prepared (the_order 
 
 abbrev pub within_list : ℕ → ℕ → Result (Unit {0}) Fault
 within_list n k = cond (nat_le n k) (Err Place) (Ok tt)
-
-abbrev pub gathering_list : ℕ → ℕ → Result (Unit {0}) Fault
-gathering_list n k = cond (nat_le n k) (Err Place) (Err fault.Gathering)
 
 -- a place of an order, with all its items in eight places
 abbrev pub placed_at : Option OpenOrder → ℕ → Placed

@@ -1,25 +1,42 @@
 -- What the rows mean, as rows of the protocol's state.
-use Rattle.std.specs.Prelude.{ℕ, Bool, false, cond, List, length, take, Some, None, Option, slice_index_or}
+use Rattle.std.specs.Prelude.{ℕ, false, List, map, take, None, Option, slice_index_or}
 use Rattle.std.specs.Option.{option_map}
-use Rattle.store.specs.Meaning.{Version, blank}
+use Rattle.store.specs.Meaning.{blank}
 use Rattle.protocol.specs.State as protocol
-use Rattle.rows.specs.declared.items.Items.{Items}
+use Rattle.rows.specs.declared.order.OrderPlace.{OrderPlace}
 use Rattle.rows.specs.declared.order.OpenOrder.{OpenOrder}
 use Rattle.rows.specs.declared.order.OrderRow.{OrderRow}
+use Rattle.rows.specs.declared.read.ReadPlace.{ReadPlace}
 use Rattle.rows.specs.declared.read.OpenRead.{OpenRead}
 use Rattle.rows.specs.declared.read.ReadRow.{ReadRow}
 
-abbrev pub listed : Items → List ℕ
-listed x = take x.count x.list
+-- a place of no item, of which nothing was asked
+abbrev pub no_order_place : OrderPlace
+no_order_place = record { item = 0; code = 0; prepared = false; committed = false }
 
-abbrev pub flag : List Bool → ℕ → Bool
-flag l k = slice_index_or l k false
+abbrev pub no_read_place : ReadPlace
+no_read_place = record { item = 0; first = None; again = false; kept = blank }
+
+abbrev pub order_place : OpenOrder → ℕ → OrderPlace
+order_place x k = slice_index_or x.places k no_order_place
+
+-- the items of the places that are listed, and their codes
+abbrev pub order_items : OpenOrder → List ℕ
+order_items x = map (λ p. p.item) (take x.count x.places)
+
+abbrev pub order_codes : OpenOrder → List ℕ
+order_codes x = map (λ p. p.code) (take x.count x.places)
 
 abbrev pub order_in : ℕ → OpenOrder → protocol.OpenOrder
 order_in w x = record {
-  order = record { writer = w; items = listed x.items; codes = take (length (listed x.items)) x.codes; stamp = x.stamp };
-  prepared = flag x.prepared;
-  committed = flag x.committed;
+  order = record {
+    writer = w;
+    items = order_items x;
+    codes = order_codes x;
+    stamp = x.stamp;
+  };
+  prepared = λ k. (order_place x k).prepared;
+  committed = λ k. (order_place x k).committed;
 }
 
 -- the row of the writer w
@@ -29,14 +46,16 @@ row_of w x = record { sequence = x.sequence; current = option_map (order_in w) x
 abbrev pub empty_row : OrderRow
 empty_row = record { sequence = 0; current = None }
 
-abbrev pub version_at : List Version → ℕ → Version
-version_at l k = slice_index_or l k blank
-
-abbrev pub first_at : OpenRead → ℕ → Option Version
-first_at x k = cond (flag x.made k) (Some (version_at x.firsts k)) None
+abbrev pub read_place : OpenRead → ℕ → ReadPlace
+read_place x k = slice_index_or x.places k no_read_place
 
 abbrev pub read_in : OpenRead → protocol.OpenRead
-read_in x = record { items = listed x.items; first = first_at x; again = flag x.again; kept = version_at x.kept }
+read_in x = record {
+  items = map (λ p. p.item) (take x.count x.places);
+  first = λ k. (read_place x k).first;
+  again = λ k. (read_place x k).again;
+  kept = λ k. (read_place x k).kept;
+}
 
 abbrev pub reading : ReadRow → Option protocol.OpenRead
 reading x = option_map read_in x.current

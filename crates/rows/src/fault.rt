@@ -1,11 +1,13 @@
 // Why the service refuses, each reason with its number. A store's fault comes up whole, with the item it was about.
 ghost use Rattle.std.specs.Prelude.{◌≡◌};
-ghost use Rattle.rows.specs.Faults.{number_of, with_item, at_item};
+ghost use Rattle.rows.specs.Faults.{number_of, with_item, at_item, plain};
 
+use blend::Refusal;
 use store::StoreFault;
 
-#[derive(Clone, Copy)]
+#[derive(Clone, Copy, PartialEq, Eq, Debug)]
 pub enum Fault {
+    // The fields of AtItem, named in the variant, which is matched together with its item.
     Store { item: u8, fault: StoreFault },
     Writer,
     OrderOpen,
@@ -32,6 +34,7 @@ impl Fault {
     pub fn number(self) -> u8
         ensures { result ≡ number_of self }
     {
+        // One variant has data, so the numbers are no discriminants.
         match self {
             Fault::Store { item: _, fault } => fault.number(),
             Fault::Writer => 10,
@@ -58,7 +61,7 @@ impl Fault {
 }
 
 // A store's fault with the item it was about.
-#[derive(Clone, Copy)]
+#[derive(Clone, Copy, PartialEq, Eq, Debug)]
 pub struct AtItem {
     pub item: u8,
     pub fault: StoreFault,
@@ -75,12 +78,24 @@ impl From<AtItem> for Fault {
     }
 }
 
+// Plain input that is refused.
+impl From<Refusal> for Fault {
+    ghost from_gives = { λ e r. r ≡ plain e };
+
+    fn from(e: Refusal) -> Fault {
+        match e {
+            Refusal::Writer => Fault::Writer,
+            Refusal::Sequence => Fault::Sequence,
+            Refusal::List => Fault::List,
+            Refusal::Item => Fault::Item,
+            Refusal::NoBody => Fault::NoBody,
+        }
+    }
+}
+
 // A store's answer with the item it was asked about.
 pub fn about<T>(item: u8, answer: Result<T, StoreFault>) -> Result<T, AtItem>
     ensures { result ≡ at_item item answer }
 {
-    match answer {
-        Ok(x) => Ok(x),
-        Err(fault) => Err(AtItem { item, fault }),
-    }
+    answer.map_err(|fault| AtItem { item, fault })
 }

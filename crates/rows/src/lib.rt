@@ -4,8 +4,6 @@
 
 mod asks;
 mod fault;
-mod flags;
-mod items;
 mod order;
 mod order_calls;
 mod order_changes;
@@ -13,14 +11,12 @@ mod places;
 mod read;
 mod read_calls;
 mod read_changes;
+mod reasons;
 
 pub use fault::{AtItem, Fault, about};
-pub use flags::{all, count, is_set};
-pub use items::Items;
-pub use order::{OpenOrder, OrderRow};
+pub use order::{OpenOrder, OrderPlace, OrderRow};
 pub use order_calls::{OrderCall, Stage};
 pub use order_changes::Placed;
-pub use places::{at_or, eight};
-pub use read::{OpenRead, ReadRow};
+pub use places::at_or;
+pub use read::{OpenRead, ReadPlace, ReadRow};
 pub use read_calls::ReadCall;
-pub use read_changes::later;

@@ -2,15 +2,15 @@
 ghost use Rattle.std.specs.Prelude.{◌≡◌, ℕ, ◌≤◌};
 ghost use Rattle.blend.specs.Refusals.{first_of};
 ghost use Rattle.rows.specs.Faults.{refusal_in, About};
-ghost use Rattle.rows.specs.Rows.{row_of};
-ghost use Rattle.rows.specs.OrderCalls.{stage_of, items_in, order_tests, within_list, gathering_list};
+ghost use Rattle.protocol.specs.Refusals.{all_prepared, all_committed};
+ghost use Rattle.rows.specs.Rows.{order_in, row_of};
+ghost use Rattle.rows.specs.OrderCalls.{stage_of, items_in, order_tests, within_list};
 
 use super::fault::Fault;
-use super::flags::all;
 use super::order::{OpenOrder, OrderRow};
 
 // An order gathers until every place is prepared, is then sealed, and complete once every place is committed.
-#[derive(Clone, Copy)]
+#[derive(Clone, Copy, PartialEq, Eq, Debug)]
 pub enum Stage {
     Idle,
     Gathering,
@@ -18,7 +18,7 @@ pub enum Stage {
     Complete,
 }
 
-#[derive(Clone, Copy)]
+#[derive(Clone, Copy, PartialEq, Eq, Debug)]
 pub enum OrderCall {
     Prepare(u8),
     Commit(u8),
@@ -26,19 +26,34 @@ pub enum OrderCall {
     Withdraw,
 }
 
+impl OpenOrder {
+    // Whether every place of the order is prepared.
+    fn is_prepared(&self) -> bool
+        ensures { (w : ℕ) → result ≡ all_prepared (order_in w self.now) }
+    {
+        self.listed().iter().all(|place| place.prepared)
+    }
+
+    // Whether every place of the order is committed.
+    fn is_committed(&self) -> bool
+        ensures { (w : ℕ) → result ≡ all_committed (order_in w self.now) }
+    {
+        self.listed().iter().all(|place| place.committed)
+    }
+}
+
 impl OrderRow {
     // Where the writer's order stands.
     pub fn stage(&self) -> Stage
         ensures { (w : ℕ) → result ≡ stage_of (row_of w self.now).current }
     {
-        let Some(order) = self.current else {
+        let Some(order) = &self.current else {
             return Stage::Idle;
         };
-        let len = order.items.len();
-        if !all(&order.prepared, len) {
+        if !order.is_prepared() {
             return Stage::Gathering;
         }
-        if all(&order.committed, len) {
+        if order.is_committed() {
             Stage::Complete
         } else {
             Stage::Sealed
@@ -50,10 +65,7 @@ impl OrderRow {
         ensures value { (w : ℕ) → result ≡ items_in (row_of w self.now).current }
         ensures few { result ≤ 8 }
     {
-        match self.current {
-            Some(order) => order.items.len(),
-            None => 0,
-        }
+        self.current.map_or(0, |order| order.count)
     }
 
     // Whether the row admits the call, or why it refuses it.
@@ -63,32 +75,23 @@ impl OrderRow {
         ensures own { (i : ℕ) → About i result }
     {
         let len = self.len();
+        // An arm that takes a place names one stage: the check has no rule for `|` beside a bound field.
         match (self.stage(), call) {
             (Stage::Idle, _) => Err(Fault::NoOrder),
             (Stage::Gathering, OrderCall::Prepare(place)) => within(len, place),
-            (Stage::Gathering, OrderCall::Commit(place)) => gathers(len, place),
-            (Stage::Gathering, OrderCall::Close) => Err(Fault::Incomplete),
+            (Stage::Gathering, OrderCall::Commit(place)) => {
+                within(len, place).and(Err(Fault::Gathering))
+            }
             (Stage::Gathering, OrderCall::Withdraw) => Ok(()),
+            (Stage::Gathering | Stage::Sealed, OrderCall::Close) => Err(Fault::Incomplete),
             (Stage::Sealed, OrderCall::Prepare(place)) => within(len, place),
             (Stage::Sealed, OrderCall::Commit(place)) => within(len, place),
-            (Stage::Sealed, OrderCall::Close) => Err(Fault::Incomplete),
-            (Stage::Sealed, OrderCall::Withdraw) => Err(Fault::Sealed),
+            (Stage::Sealed | Stage::Complete, OrderCall::Withdraw) => Err(Fault::Sealed),
             (Stage::Complete, OrderCall::Prepare(place)) => within(len, place),
             (Stage::Complete, OrderCall::Commit(place)) => within(len, place),
             (Stage::Complete, OrderCall::Close) => Ok(()),
-            (Stage::Complete, OrderCall::Withdraw) => Err(Fault::Sealed),
         }
     }
-}
-
-// A commit of a gathering order is refused, for its place first.
-fn gathers(len: u8, place: u8) -> Result<(), Fault>
-    ensures { result ≡ gathering_list len place }
-{
-    if place >= len {
-        return Err(Fault::Place);
-    }
-    Err(Fault::Gathering)
 }
 
 // A place beyond the list is refused.

@@ -1,15 +1,17 @@
 // What a row gives of an order's place, and how the calls of its writer change it.
-ghost use Rattle.std.specs.Prelude.{◌≡◌, ℕ, ◌<◌, ◌≤◌, length, None};
-ghost use Rattle.protocol.specs.Step.{filed_row, with_order, prepared_at, committed_at};
-ghost use Rattle.rows.specs.Rows.{order_in, row_of};
+ghost use Rattle.std.specs.Prelude.{◌≡◌, ℕ, ◌<◌, ◌≤◌, length, Some, None, slice_index};
+ghost use Rattle.protocol.specs.Step.{filed_row, with_order};
+ghost use Rattle.protocol.specs.Naming.{padded};
+ghost use Rattle.rows.specs.Places.{in_eight, filed_place};
+ghost use Rattle.rows.specs.Rows.{order_items, order_codes, order_in, row_of};
 ghost use Rattle.rows.specs.OrderCalls.{placed_at, prepared_in, committed_in};
 
-use super::items::Items;
-use super::order::{OpenOrder, OrderRow};
-use super::places::{at_or, eight};
+use super::order::{OpenOrder, OrderPlace, OrderRow};
+use super::places::{at_or, count_of};
+use std::array;
 
 // One place of an order: its item and code, the order's stamp, and all its items in eight places.
-#[derive(Clone, Copy)]
+#[derive(Clone, Copy, PartialEq, Eq, Debug, Default)]
 pub struct Placed {
     pub item: u8,
     pub code: u64,
@@ -17,31 +19,62 @@ pub struct Placed {
     pub items: [u8; 8],
 }
 
+// Eight places with their items and codes, of which none is prepared or committed.
+fn filed_places(items: &[u8], codes: &[u64]) -> [OrderPlace; 8]
+    ensures { result ≡ in_eight (filed_place items.now codes.now) }
+{
+    array::from_fn(|k| OrderPlace {
+        item: at_or(0, items, k),
+        code: at_or(0, codes, k),
+        prepared: false,
+        committed: false,
+    })
+}
+
+impl OpenOrder {
+    // The item at a place; 0 past the list.
+    fn item(&self, at: usize) -> u8
+        ensures { result ≡ slice_index (order_items self.now) at }
+    {
+        self.listed().get(at).map_or(0, |place| place.item)
+    }
+
+    // The code at a place; 0 past the list.
+    fn code(&self, at: usize) -> u64
+        ensures { result ≡ slice_index (order_codes self.now) at }
+    {
+        self.listed().get(at).map_or(0, |place| place.code)
+    }
+
+    // The items in eight places, zeros after them.
+    fn items(&self) -> [u8; 8]
+        ensures { result ≡ padded 8 (order_items self.now) }
+    {
+        array::from_fn(|k| self.item(k))
+    }
+
+    // A place of the order; 0 past the list.
+    fn placed(&self, place: u8) -> Placed
+        ensures { (w : ℕ) → result ≡ placed_at (Some (order_in w self.now)) place }
+    {
+        Placed {
+            item: self.item(usize::from(place)),
+            code: self.code(usize::from(place)),
+            stamp: self.stamp,
+            items: self.items(),
+        }
+    }
+}
+
 impl OrderRow {
     // A place of the open order; all 0 without one, and past the list.
     pub fn placed(&self, place: u8) -> Placed
         ensures { (w : ℕ) → result ≡ placed_at (row_of w self.now).current place }
     {
-        let Some(order) = self.current else {
-            return Placed {
-                item: 0,
-                code: 0,
-                stamp: 0,
-                items: [0; 8],
-            };
+        let Some(order) = &self.current else {
+            return Placed::default();
         };
-        let item = order.items.at(place);
-        let code = at_or(
-            0,
-            &order.codes[0..order.items.len() as usize],
-            place as usize,
-        );
-        Placed {
-            item,
-            code,
-            stamp: order.stamp,
-            items: order.items.eight(),
-        }
+        order.placed(place)
     }
 
     // Opens an order of up to eight items, each with its code.
@@ -49,31 +82,35 @@ impl OrderRow {
         ensures { length items.now ≤ 8 → length codes.now ≡ length items.now → (w : ℕ) → row_of w self.new ≡ filed_row w sequence items.now codes.now stamp }
     {
         let order = OpenOrder {
-            items: Items::new(items),
-            codes: eight(0, codes),
+            places: filed_places(items, codes),
+            count: count_of(items),
             stamp,
-            prepared: [false; 8],
-            committed: [false; 8],
         };
         self.sequence = sequence;
         self.current = Some(order);
     }
 
-    // Marks a place as prepared.
+    // Marks a place as prepared, where it is one of the eight: a type for a place would ask more of callers.
     pub fn prepare(&mut self, place: u8)
         ensures { place < 8 → (w : ℕ) → row_of w self.new ≡ with_order (row_of w self.old) (prepared_in (row_of w self.old).current place) }
     {
         if let Some(order) = &mut self.current {
-            order.set_prepared(place);
+            // By index, since std's `get_mut` says nothing of what the slice ends as.
+            if place < 8 {
+                order.places[usize::from(place)].prepared = true;
+            }
         }
     }
 
-    // Marks a place as committed.
+    // Marks a place as committed: as prepare, since a closure for the field would be longer than the line that differs.
     pub fn commit(&mut self, place: u8)
         ensures { place < 8 → (w : ℕ) → row_of w self.new ≡ with_order (row_of w self.old) (committed_in (row_of w self.old).current place) }
     {
         if let Some(order) = &mut self.current {
-            order.set_committed(place);
+            // By index, as in prepare.
+            if place < 8 {
+                order.places[usize::from(place)].committed = true;
+            }
         }
     }
 
@@ -82,23 +119,5 @@ impl OrderRow {
         ensures { (w : ℕ) → row_of w self.new ≡ with_order (row_of w self.old) None }
     {
         self.current = None;
-    }
-}
-
-impl OpenOrder {
-    fn set_prepared(&mut self, place: u8)
-        ensures { place < 8 → (w : ℕ) → order_in w self.new ≡ prepared_at (order_in w self.old) place }
-    {
-        if place < 8 {
-            self.prepared[place as usize] = true;
-        }
-    }
-
-    fn set_committed(&mut self, place: u8)
-        ensures { place < 8 → (w : ℕ) → order_in w self.new ≡ committed_at (order_in w self.old) place }
-    {
-        if place < 8 {
-            self.committed[place as usize] = true;
-        }
     }
 }

@@ -1,14 +1,31 @@
 // A reader's row: its open read.
-use super::items::Items;
+ghost use Rattle.std.specs.Prelude.{◌≡◌, ◌≤◌, take};
 
-// By place: whether the first ask was made and what it answered, whether the second was made, and the version kept.
+// One place of a read: its item, what its first ask answered, whether its second ask was made, and the version kept.
+// `again` beside `kept` is no Option: a place keeps a version before its second ask too.
+#[derive(Clone, Copy, PartialEq, Eq, Debug)]
+pub struct ReadPlace {
+    pub item: u8,
+    pub first: Option<(u32, u64, u64)>,
+    pub again: bool,
+    pub kept: (u32, u64, u64),
+}
+
+// The read lists the first `count` of its places, as an order does.
 #[derive(Clone, Copy)]
 pub struct OpenRead {
-    pub items: Items,
-    pub made: [bool; 8],
-    pub firsts: [(u32, u64, u64); 8],
-    pub again: [bool; 8],
-    pub kept: [(u32, u64, u64); 8],
+    pub places: [ReadPlace; 8],
+    pub count: u8,
+    pub ghost few: { count ≤ 8 },
+}
+
+impl OpenRead {
+    // The places that the read lists.
+    pub fn listed(&self) -> &[ReadPlace]
+        ensures { result.now ≡ take self.now.count self.now.places }
+    {
+        &self.places[..usize::from(self.count)]
+    }
 }
 
 #[derive(Clone, Copy)]

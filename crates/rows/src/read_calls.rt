@@ -4,15 +4,13 @@ ghost use Rattle.blend.specs.Refusals.{first_of};
 ghost use Rattle.protocol.specs.State.{the_read};
 ghost use Rattle.rows.specs.Faults.{refusal_in, About};
 ghost use Rattle.rows.specs.Rows.{read_in, reading};
-ghost use Rattle.rows.specs.Rules.{rule_of};
 ghost use Rattle.rows.specs.ReadCalls.{read_tests, first_tests_at, second_tests_at, take_tests_at};
 
 use super::fault::Fault;
-use super::flags::is_set;
 use super::read::{OpenRead, ReadRow};
 use naming::Naming;
 
-#[derive(Clone, Copy)]
+#[derive(Clone, Copy, PartialEq, Eq, Debug)]
 pub enum ReadCall {
     First(u8),
     Second(u8),
@@ -26,19 +24,15 @@ impl ReadRow {
         ensures value { result ≡ length (the_read (reading self.now)).items }
         ensures few { result ≤ 8 }
     {
-        match self.current {
-            Some(read) => read.items.len(),
-            None => 0,
-        }
+        self.current.map_or(0, |read| read.count)
     }
 
     // Whether the row admits the call, or why it refuses it.
     pub fn admit<N: Naming>(&self, call: ReadCall) -> Result<(), Fault>
-        ensures answer { first_of (read_tests (rule_of N.Naming.marks N.Naming.named N.Naming.twice) (reading self.now) call) ≡ refusal_in result }
+        ensures answer { first_of (read_tests N.Naming.rule (reading self.now) call) ≡ refusal_in result }
         ensures few { length (the_read (reading self.now)).items ≤ 8 }
         ensures own { (i : ℕ) → About i result }
     {
-        let _ = self.len();
         match (self.current, call) {
             (None, _) => Err(Fault::NoRead),
             (Some(read), ReadCall::First(place)) => read.admit_first(place),
@@ -54,20 +48,20 @@ impl OpenRead {
         ensures answer { first_of (first_tests_at (read_in self.now) place) ≡ refusal_in result }
         ensures own { (i : ℕ) → About i result }
     {
-        if place >= self.items.len() {
+        if place >= self.count {
             return Err(Fault::Place);
         }
-        if is_set(&self.made, place) {
+        if self.first(place).is_some() {
             return Err(Fault::Asked);
         }
         Ok(())
     }
 
     fn admit_second<N: Naming>(&self, place: u8) -> Result<(), Fault>
-        ensures answer { first_of (second_tests_at (rule_of N.Naming.marks N.Naming.named N.Naming.twice) (read_in self.now) place) ≡ refusal_in result }
+        ensures answer { first_of (second_tests_at N.Naming.rule (read_in self.now) place) ≡ refusal_in result }
         ensures own { (i : ℕ) → About i result }
     {
-        if place >= self.items.len() {
+        if place >= self.count {
             return Err(Fault::Place);
         }
         if !self.all_made() {
@@ -80,10 +74,10 @@ impl OpenRead {
     }
 
     fn admit_take<N: Naming>(&self, place: u8) -> Result<(), Fault>
-        ensures answer { first_of (take_tests_at (rule_of N.Naming.marks N.Naming.named N.Naming.twice) (read_in self.now) place) ≡ refusal_in result }
+        ensures answer { first_of (take_tests_at N.Naming.rule (read_in self.now) place) ≡ refusal_in result }
         ensures own { (i : ℕ) → About i result }
     {
-        if place >= self.items.len() {
+        if place >= self.count {
             return Err(Fault::Place);
         }
         if !self.is_finished::<N>() {

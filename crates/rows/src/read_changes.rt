@@ -1,45 +1,69 @@
 // How the calls of its reader change a row.
 ghost use Rattle.std.specs.Prelude.{◌≡◌, ◌<◌, ◌≤◌, length, Some, None};
-ghost use Rattle.protocol.specs.Step.{fresh_read, first_asked, second_asked, later_version};
+ghost use Rattle.protocol.specs.Step.{fresh_read, first_asked, second_asked};
 ghost use Rattle.protocol.specs.Asks.{progress, eight, wanted as wanted_stamp, asks_made};
 ghost use Rattle.protocol.specs.State.{the_read};
-ghost use Rattle.rows.specs.Rules.{rule_of};
 ghost use Rattle.protocol.specs.Refusals.{read_item};
+ghost use Rattle.rows.specs.Places.{in_eight, opened_place};
 ghost use Rattle.rows.specs.Rows.{read_in, reading};
 ghost use Rattle.rows.specs.ReadCalls.{first_in, second_in};
 
-use super::items::Items;
-use super::places::at_or;
-use super::read::{OpenRead, ReadRow};
-use blend::is_later;
+use super::places::{at_or, count_of};
+use super::read::{OpenRead, ReadPlace, ReadRow};
 use naming::Naming;
+use std::array;
+use store::later_version;
 
-// The later of two versions, the first where neither is later.
-pub fn later(old: (u32, u64, u64), new: (u32, u64, u64)) -> (u32, u64, u64)
-    ensures { result ≡ later_version old new }
+// Eight places with their items, of which nothing was asked.
+fn opened_places(items: &[u8]) -> [ReadPlace; 8]
+    ensures { result ≡ in_eight (opened_place items.now) }
 {
-    if is_later(new.0, old.0) { new } else { old }
+    array::from_fn(|k| ReadPlace {
+        item: at_or(0, items, k),
+        first: None,
+        again: false,
+        kept: (0, 0, 0),
+    })
 }
 
 impl OpenRead {
     fn set_first(&mut self, place: u8, version: (u32, u64, u64))
         ensures { place < 8 → read_in self.new ≡ first_asked (read_in self.old) place version }
     {
+        // By index, since std's `get_mut` says nothing of what the slice ends as.
         if place < 8 {
-            self.made[place as usize] = true;
-            self.firsts[place as usize] = version;
-            self.kept[place as usize] = version;
+            let at = usize::from(place);
+            let old = self.places[at];
+            self.places[at] = ReadPlace {
+                first: Some(version),
+                kept: version,
+                ..old
+            };
         }
     }
 
     fn set_second(&mut self, place: u8, version: (u32, u64, u64))
         ensures { place < 8 → read_in self.new ≡ second_asked (read_in self.old) place version }
     {
+        // By index, as in set_first.
         if place < 8 {
-            let kept = self.kept[place as usize];
-            self.again[place as usize] = true;
-            self.kept[place as usize] = later(kept, version);
+            let at = usize::from(place);
+            let old = self.places[at];
+            self.places[at] = ReadPlace {
+                again: true,
+                kept: later_version(old.kept, version),
+                ..old
+            };
         }
+    }
+
+    // The version kept at a place; the blank past the eighth.
+    fn kept(&self, place: u8) -> (u32, u64, u64)
+        ensures { result ≡ (read_in self.now).kept place }
+    {
+        self.places
+            .get(usize::from(place))
+            .map_or((0, 0, 0), |place| place.kept)
     }
 }
 
@@ -48,13 +72,9 @@ impl ReadRow {
     pub fn open(&mut self, items: &[u8])
         ensures { length items.now ≤ 8 → reading self.new ≡ Some (fresh_read items.now) }
     {
-        let blank = (0, 0, 0);
         let read = OpenRead {
-            items: Items::new(items),
-            made: [false; 8],
-            firsts: [blank; 8],
-            again: [false; 8],
-            kept: [blank; 8],
+            places: opened_places(items),
+            count: count_of(items),
         };
         self.current = Some(read);
     }
@@ -63,17 +83,15 @@ impl ReadRow {
     pub fn item(&self, place: u8) -> u8
         ensures { result ≡ read_item (the_read (reading self.now)) place }
     {
-        match self.current {
-            Some(read) => read.items.at(place),
-            None => 0,
-        }
+        self.current.map_or(0, |read| read.item(place))
     }
 
     // The stamps that a place wants from each place; all 0 without a read.
     pub fn wanted<N: Naming>(&self, place: u8) -> [u32; 8]
-        ensures { result ≡ eight (wanted_stamp (rule_of N.Naming.marks N.Naming.named N.Naming.twice) (progress (the_read (reading self.now))) place) }
+        ensures { result ≡ eight (wanted_stamp N.Naming.rule (progress (the_read (reading self.now))) place) }
     {
-        match self.current {
+        // A match: with map_or and a closure the check leaves the clause open.
+        match &self.current {
             Some(read) => read.wanted::<N>(place),
             None => [0; 8],
         }
@@ -83,23 +101,17 @@ impl ReadRow {
     pub fn asks(&self) -> u8
         ensures { result ≡ asks_made (progress (the_read (reading self.now))) }
     {
-        match self.current {
-            Some(read) => read.asks(),
-            None => 0,
-        }
+        self.current.map_or(0, |read| read.asks())
     }
 
     // The version kept at a place.
     pub fn kept(&self, place: u8) -> (u32, u64, u64)
         ensures { result ≡ (the_read (reading self.now)).kept place }
     {
-        match self.current {
-            Some(read) => at_or((0, 0, 0), &read.kept, place as usize),
-            None => (0, 0, 0),
-        }
+        self.current.map_or((0, 0, 0), |read| read.kept(place))
     }
 
-    // Keeps what the first ask of a place answered.
+    // Keeps what the first ask of a place answered, where it is one of the eight: a type for a place would ask more of callers.
     pub fn keep_first(&mut self, place: u8, version: (u32, u64, u64))
         ensures { place < 8 → reading self.new ≡ first_in (reading self.old) place version }
     {

@@ -4,6 +4,7 @@
 
 mod calls;
 mod driver;
+mod words;
 
 pub use calls::{Answer, Call};
 pub use driver::{make, run};

@@ -1,20 +1,22 @@
--- One turn of each loop over the lists of a call.
-use Rattle.std.proofs.Common.{◌≡◌, ℕ, zero, suc, ◌+◌, ◌-◌, ◌<◌, ◌≤◌, Bool, false, cond, eqb, List, [], ◌∷◌, ◌++◌, length, get_or, take, drop, Some, None, Ok, Err, Option, Result, sym, refl, ap, ◌∙◌, arith, length-drop, le-ltb}
-use Rattle.std.proofs.lemmas.List.{at_drop_more, take_rest}
+-- What a conversion gives, and one turn of the loop over the entries of a call.
+use Rattle.std.proofs.Common.{◌≡◌, ℕ, zero, suc, ◌+◌, ◌^◌, ◌<◌, ◌≤◌, false, eqb, List, [], ◌∷◌, ◌++◌, length, get_or, take, drop, Some, None, Ok, Err, Option, Result, sym, refl, subst, arith, length-drop}
+use Rattle.std.proofs.lemmas.Bool.{le-leb, lt-leb}
+use Rattle.std.proofs.lemmas.List.{at_drop_more}
+use Rattle.std.specs.Result.{OkIff, IsErrAnd}
 use Rattle.blend.specs.declared.item.Kind.{Kind}
 use Rattle.blend.specs.declared.item.Kind.TheVariants as kind
 use Rattle.text.specs.declared.token.Token.{Token}
 use Rattle.text.specs.declared.token.Token.TheVariants.{Other}
 use Rattle.text.specs.Tokens.{number_in}
 use Rattle.sheet.specs.declared.entry.Entry.{Entry}
-use Rattle.sheet.specs.declared.fault.LineFault.{LineFault}
 use Rattle.sheet.specs.Lines.{entry_in}
 use Rattle.script.specs.declared.fault.ScriptFault.{ScriptFault}
-use Rattle.script.specs.declared.fault.ScriptFault.TheVariants.{Numbers}
 use Rattle.blend.specs.Items.{kind_at}
-use Rattle.script.specs.Numbers.{at_most, byte_at, sequence_at}
-use Rattle.script.specs.Entries.{width_of, width_at, part_of, with_entry, entries_onto, entries_in, with_byte, bytes_onto, bytes_in}
-use Rattle.script.specs.Lines.{file_with, file_in, open_with, open_in}
+use Rattle.script.specs.declared.fault.ScriptError.{ScriptError}
+use Rattle.script.specs.declared.fault.ScriptError.TheVariants as error
+use Rattle.script.specs.Errors.{Reads}
+use Rattle.script.specs.Numbers.{at_most, Narrowed}
+use Rattle.script.specs.Entries.{width_of, width_at, part_of, with_entry, entries_onto, with_byte, bytes_onto}
 
 width_of_some : (k : Option Kind) → 0 < width_of k
 width_of_some None = omega arith
@@ -57,41 +59,40 @@ entries_more x (t ∷ ts) h =
     (drop (part_of (t ∷ ts)) (t ∷ ts)) (omega arith) (omega arith)
 
 -- the entry that was read is added to the lists, and the tokens after it are left
-pub entries_next : (is cs is' cs' : List ℕ) (e : Entry) (w : ℕ) (ts : List Token) → false ≡ eqb (length ts) 0 → w ≡ part_of ts →
-    Ok e ≡ entry_in (take w ts) → is' ≡ is ++ e.item ∷ [] → cs' ≡ cs ++ e.code ∷ [] →
-    entries_onto (length (take (length ts - w) (drop w ts))) (Ok (is', cs')) (take (length ts - w) (drop w ts)) ≡
-    entries_onto (length ts) (Ok (is, cs)) ts
-entries_next is cs is' cs' e w [] h p r a b = cc
-entries_next is cs is' cs' e w (t ∷ us) h p r a b =
-    let ts : List Token = t ∷ us in
-    ap (λ (x : List Token). entries_onto (length x) (Ok (is', cs')) x) (take_rest ts w) ∙
-    ap (λ (x : List ℕ). entries_onto (length (drop w ts)) (Ok (x, cs')) (drop w ts)) a ∙
-    ap (λ (x : List ℕ). entries_onto (length (drop w ts)) (Ok (is ++ e.item ∷ [], x)) (drop w ts)) b ∙
-    ap (λ (x : Result Entry LineFault). entries_onto (length (drop w ts)) (with_entry (is, cs) x) (drop w ts)) r ∙
-    ap (λ (n : ℕ). entries_onto (length (drop n ts)) (with_entry (is, cs) (entry_in (take n ts))) (drop n ts)) p ∙
-    sym (entries_more (is, cs) ts (omega arith))
+pub entries_next : (is cs is' cs' : List ℕ) (e : Entry) (w : ℕ) (ts first rest : List Token) → false ≡ eqb (length ts) 0 → w ≡ part_of ts →
+    first ≡ take w ts → rest ≡ drop w ts → Ok e ≡ entry_in first → is' ≡ is ++ e.item ∷ [] → cs' ≡ cs ++ e.code ∷ [] →
+    entries_onto (length rest) (Ok (is', cs')) rest ≡ entries_onto (length ts) (Ok (is, cs)) ts
+entries_next is cs is' cs' e w [] first rest h p f d r a b = cc
+entries_next is cs is' cs' e w (t ∷ us) first rest h p f d r a b =
+    let m = entries_more (is, cs) (t ∷ us) (omega arith) in
+    let q : with_entry (is, cs) (Ok e) ≡ Ok (is ++ e.item ∷ [], cs ++ e.code ∷ []) = refl in
+    cc
+
+-- a conversion that gives the numbers below a bound
+narrowed : (most bound : ℕ) → bound ≡ most + 1 → (E : Type 0) (o : Option ℕ) (r : Result ℕ ScriptFault) →
+    Narrowed {T = ℕ} {E = E} (λ x a. OkIff a (x < bound) x) o r → r ≡ at_most most o
+narrowed most bound b E None r h = h
+narrowed most bound b E (Some n) r (Ok x, g, e) = rw (le-leb n most (omega (arith, g.0))) (cc (e, g.1))
+narrowed most bound b E (Some n) r (Err x, g, e) = rw (lt-leb n most (omega (arith, g))) e
+
+-- a byte
+pub narrowed_byte : (E : Type 0) (o : Option ℕ) (r : Result ℕ ScriptFault) →
+    Narrowed {T = ℕ} {E = E} (λ x a. OkIff a (x < 2 ^ 8) x) o r → r ≡ at_most 255 o
+narrowed_byte E o r h = narrowed 255 (2 ^ 8) refl E o r h
+
+-- a sequence
+pub narrowed_sequence : (E : Type 0) (o : Option ℕ) (r : Result ℕ ScriptFault) →
+    Narrowed {T = ℕ} {E = E} (λ x a. OkIff a (x < 2 ^ 32) x) o r → r ≡ at_most 4294967295 o
+narrowed_sequence E o r h = narrowed 4294967295 (2 ^ 32) refl E o r h
 
 -- the item at i is read
-pub bytes_more : (xs : List ℕ) (line : List Token) (i : ℕ) (o : Result ℕ ScriptFault) → i < length line → o ≡ byte_at line i →
-    bytes_onto (Ok xs) (drop i line) ≡ bytes_onto (with_byte xs o) (drop (i + 1) line)
-bytes_more xs line i o h e =
-    at_drop_more (bytes_onto (Ok xs)) line i Other h ∙
-    ap (λ (x : Result ℕ ScriptFault). bytes_onto (with_byte xs x) (drop (i + 1) line)) (sym e)
+pub bytes_more : (xs : List ℕ) (line : List Token) (i : ℕ) (d : Token) (o : Result ℕ ScriptFault) → i < length line →
+    o ≡ at_most 255 (number_in (get_or line i d)) → bytes_onto (Ok xs) (drop i line) ≡ bytes_onto (with_byte xs o) (drop (i + 1) line)
+bytes_more xs line i d o h e = rw (at_drop_more (bytes_onto (Ok xs)) line i d h, e)
 
--- a filing from the parts of its line
-pub file_line : (line : List Token) (w q : Result ℕ ScriptFault) (lists : Result (List ℕ × List ℕ) ScriptFault) → 3 ≤ length line →
-    w ≡ byte_at line 1 → q ≡ sequence_at line 2 → lists ≡ entries_in (take (length line - 3) (drop 3 line)) → file_with w q lists ≡ file_in line
-file_line line w q lists h a b e =
-    ap (λ (x : Result ℕ ScriptFault). file_with x q lists) a ∙
-    ap (λ (x : Result ℕ ScriptFault). file_with (byte_at line 1) x lists) b ∙
-    ap (file_with (byte_at line 1) (sequence_at line 2)) (e ∙ ap entries_in (take_rest line 3)) ∙
-    ap (λ (b : Bool). cond b (Err Numbers) (file_with (byte_at line 1) (sequence_at line 2) (entries_in (drop 3 line))))
-    (sym (le-ltb (length line) 3 h))
-
--- an opening from the parts of its line
-pub open_line : (line : List Token) (r : Result ℕ ScriptFault) (items : Result (List ℕ) ScriptFault) → 2 ≤ length line →
-    r ≡ byte_at line 1 → items ≡ bytes_in (take (length line - 2) (drop 2 line)) → open_with r items ≡ open_in line
-open_line line r items h a e =
-    ap (λ (x : Result ℕ ScriptFault). open_with x items) a ∙
-    ap (open_with (byte_at line 1)) (e ∙ ap bytes_in (take_rest line 2)) ∙
-    ap (λ (b : Bool). cond b (Err Numbers) (open_with (byte_at line 1) (bytes_in (drop 2 line)))) (sym (le-ltb (length line) 2 h))
+-- an error of a part that is passed on is what the whole is read as, where the part's fault is the whole's
+pub error_read : {X Y Z W : Type 0} (f : X → Y) (g : Z → W) (e : ScriptError) (x : Result Z ScriptError) (r : Result Y ScriptFault) (s : Result W ScriptFault) →
+    Reads f (Err e) r → IsErrAnd x (λ (y : ScriptError). y ≡ e) → ((k : ScriptFault) → Err k ≡ r → Err k ≡ s) → Reads g x s
+error_read f g e (Ok y) r s p q h = absurd q
+error_read f g (error.Fault k) (Err y) r s p q h = subst (λ (y : ScriptError). Reads g (Err y) s) (sym q) (h k p)
+error_read f g (error.Memory m) (Err y) r s p q h = subst (λ (y : ScriptError). Reads g (Err y) s) (sym q) tt

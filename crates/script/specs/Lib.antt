@@ -1,4 +1,5 @@
 pub mod Numbers
+pub mod Errors
 pub mod Entries
 pub mod Lines
 pub mod Words

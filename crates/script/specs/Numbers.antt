@@ -1,5 +1,5 @@
 -- The numbers after the word of a call.
-use Rattle.std.specs.Prelude.{ℕ, cond, List, length, Some, None, Ok, Err, Option, Result, ◌==◌, nat_le, slice_index_or}
+use Rattle.std.specs.Prelude.{◌≡◌, ℕ, cond, List, length, Some, None, Ok, Err, Option, Result, ◌==◌, nat_le, slice_index_or}
 use Rattle.text.specs.declared.token.Token.{Token}
 use Rattle.text.specs.declared.token.Token.TheVariants.{Other}
 use Rattle.text.specs.Tokens.{number_in}
@@ -30,3 +30,12 @@ one_byte line = cond (length line == 2) (byte_at line 1) (Err Numbers)
 -- the word and two numbers
 abbrev pub two_bytes : List Token → Result (ℕ × ℕ) ScriptFault
 two_bytes line = cond (length line == 3) (paired (byte_at line 1) (byte_at line 2)) (Err Numbers)
+
+abbrev pub or_too_large : {T E : Type 0} → Result T E → Result T ScriptFault
+or_too_large (Ok x) = Ok x
+or_too_large (Err e) = Err TooLarge
+
+-- a number as the value that its conversion gives, if it gives one
+abbrev pub Narrowed : {T E : Type 0} → (ℕ → Result T E → Type 0) → Option ℕ → Result T ScriptFault → Type 0
+Narrowed gives None r = r ≡ Err Numbers
+Narrowed {T} {E} gives (Some n) r = (x : Result T E) × gives n x × (r ≡ or_too_large x)

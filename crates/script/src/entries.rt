@@ -1,14 +1,16 @@
 // The lists of a call: entries as a sheet has them, one after another, and items.
-ghost use Rattle.std.specs.Prelude.{◌≡◌, cond, [], ◌∷◌, ◌++◌, is_ok, IfOk, vec_items, OnOk};
-ghost use Rattle.script.specs.Entries.{width_at, part_of, entries_in, bytes_in, lists_of, in_terms};
+ghost use Rattle.std.specs.Prelude.{◌≡◌, [], ◌∷◌, ◌++◌, vec_items, OnOk};
+ghost use Rattle.script.specs.Entries.{width_at, part_of, entries_in, bytes_in, lists_of};
+ghost use Rattle.script.specs.Errors.{Reads};
 
-use super::fault::ScriptFault;
-use super::numbers::byte_at;
+use super::fault::{ScriptError, ScriptFault};
+use super::numbers::number_in;
 use blend::{Kind, kind_of};
 use sheet::{Entry, read_entry};
 use std::alloc::{AllocError, Global};
-use text::Token;
+use text::{Token, token_at};
 
+// Two lists, as a filing and the service take them.
 #[derive(Drop)]
 pub struct Lists {
     pub items: Vec<u8>,
@@ -30,30 +32,25 @@ impl Lists {
 fn width(item: Result<u8, ScriptFault>) -> usize
     ensures { result ≡ width_at item }
 {
-    let Ok(number) = item else {
-        return 1;
-    };
-    match kind_of(number) {
-        Some(Kind::Quantity) => 5,
+    // A closure: by its name the check does not find the contract of a function of another crate.
+    match item.ok().and_then(|number| kind_of(number)) {
+        Some(Kind::Quantity | Kind::TankCard) => 5,
         Some(Kind::LineUp) => 7,
-        Some(Kind::TankCard) => 5,
         None => 1,
     }
 }
 
 // How many tokens the first entry has, as far as the tokens go.
+#[tactic(auto, using(crate::proofs::Steps::narrowed_byte))]
 fn part(line: &[Token]) -> usize
     ensures { result ≡ part_of line.now }
 {
-    width(byte_at(line, 0)).min(line.len())
+    width(number_in(token_at(line, 0))).min(line.len())
 }
 
 // The items and codes of entries.
-pub(super) fn read_entries(
-    heap: Global,
-    line: &[Token],
-) -> Result<Result<Lists, ScriptFault>, AllocError>
-    ensures { IfOk result (λ x. in_terms lists_of x ≡ entries_in line.now) }
+pub(super) fn read_entries(heap: Global, line: &[Token]) -> Result<Lists, ScriptError>
+    ensures { Reads lists_of result (entries_in line.now) }
 {
     let mut lists = Lists {
         items: Vec::new(heap),
@@ -61,29 +58,22 @@ pub(super) fn read_entries(
     };
     let mut rest = line;
     while !rest.is_empty() {
-        let width = part(rest);
-        match read_entry(&rest[..width]) {
-            Ok(entry) => lists.add(entry)?,
-            Err(fault) => return Ok(Err(ScriptFault::Entry(fault))),
-        }
-        rest = &rest[width..];
+        let (first, others) = rest.split_at(part(rest));
+        let entry = read_entry(first)?;
+        lists.add(entry)?;
+        rest = others;
     }
-    Ok(Ok(lists))
+    Ok(lists)
 }
 
 // Items, each a byte.
-pub(super) fn read_items(
-    heap: Global,
-    line: &[Token],
-) -> Result<Result<Vec<u8>, ScriptFault>, AllocError>
-    ensures { IfOk result (λ x. in_terms vec_items x ≡ bytes_in line.now) }
+pub(super) fn read_items(heap: Global, line: &[Token]) -> Result<Vec<u8>, ScriptError>
+    ensures { Reads vec_items result (bytes_in line.now) }
 {
     let mut items = Vec::new(heap);
-    for i in 0..line.len() {
-        match byte_at(line, i) {
-            Ok(item) => items.push(item)?,
-            Err(fault) => return Ok(Err(fault)),
-        }
+    for token in line {
+        let item = number_in(*token)?;
+        items.push(item)?;
     }
-    Ok(Ok(items))
+    Ok(items)
 }

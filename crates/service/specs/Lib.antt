@@ -1,3 +1,4 @@
 pub mod Meaning
 pub mod Bodies
 pub mod Asking
+pub mod Ending

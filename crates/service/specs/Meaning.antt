@@ -1,5 +1,5 @@
 -- What the service means, as a state of the protocol.
-use Rattle.std.specs.Prelude.{◌≡◌, ℕ, None, Ok, Err, Result, slice_index_or}
+use Rattle.std.specs.Prelude.{◌≡◌, ℕ, ◌<◌, ◌≤◌, List, None, Ok, Err, Result, slice_index_or}
 use Rattle.store.specs.Meaning.{View}
 use Rattle.protocol.specs.State.{State}
 use Rattle.protocol.specs.Calls.{Answer, refused, accepted}
@@ -31,3 +31,13 @@ pub record Started (v : View) (s : State) : Type 0 where
   pub sequences : (w : ℕ) → (s.writers w).sequence ≡ 0
   pub orders : (w : ℕ) → (s.writers w).current ≡ None
   pub reads : (r : ℕ) → s.readers r ≡ None
+
+-- the row of the number n, one of the sixteen
+pub record IsRow {R : Type 0} (rows : List R) (empty : R) (n : ℕ) (row : R) : Type 0 where
+  pub within : n ≤ 15
+  pub value : row ≡ slice_index_or rows n empty
+
+-- the number n has no row, and is refused so
+pub record IsBeyond (n : ℕ) (why fault : Fault) : Type 0 where
+  pub beyond : 15 < n
+  pub value : fault ≡ why

@@ -8,23 +8,23 @@ use blend::{fits_item, has_item};
 pub fn is_tangled(items: &[u8]) -> bool
     ensures { result ≡ bad_items items.now }
 {
-    for k in 0..items.len() {
-        if items[k] == 0 || has_item(&items[k + 1..], items[k]) {
+    let mut rest = items;
+    while let Some((item, others)) = rest.split_first() {
+        if *item == 0 || has_item(others, *item) {
             return true;
         }
+        rest = others;
     }
     false
 }
 
 // Whether a code is of no body of its item's kind.
+// Items and codes come as two slices, as callers have them: a slice of pairs would ask more of them.
 pub fn has_unfit(items: &[u8], codes: &[u64]) -> bool
     ensures { result ≡ unfit items.now codes.now }
 {
-    for k in 0..items.len() {
-        if k >= codes.len() {
-            return false;
-        }
-        if !fits_item(items[k], codes[k]) {
+    for (item, code) in items.iter().zip(codes) {
+        if !fits_item(*item, *code) {
             return true;
         }
     }

@@ -2,20 +2,13 @@
 use Rattle.std.specs.Prelude.{ℕ, cond, List, length, Some, None, Ok, Err, Option, Result, ◌==◌}
 use Rattle.std.specs.Option.{unwrap_or}
 use Rattle.blend.specs.declared.refusal.Refusal.{Refusal}
-use Rattle.blend.specs.declared.refusal.Refusal.TheVariants as refusal
 use Rattle.blend.specs.Stamps.{stamped}
 use Rattle.text.specs.declared.token.Token.{Token}
 use Rattle.text.specs.declared.word.Word.TheVariants as word
 use Rattle.text.specs.Tokens.{field_at}
+use Rattle.sheet.specs.Faults.{stamp_fault}
 use Rattle.sheet.specs.declared.fault.LineFault.{LineFault}
-use Rattle.sheet.specs.declared.fault.LineFault.TheVariants.{Writer, Sequence, Full, Item, Body}
-
-abbrev pub stamp_fault : Refusal → LineFault
-stamp_fault refusal.Writer = Writer
-stamp_fault refusal.Sequence = Sequence
-stamp_fault refusal.List = Full
-stamp_fault refusal.Item = Item
-stamp_fault refusal.NoBody = Body
+use Rattle.sheet.specs.declared.fault.LineFault.TheVariants.{Writer}
 
 abbrev pub stamp_or_fault : Result ℕ Refusal → Result ℕ LineFault
 stamp_or_fault (Ok s) = Ok s

@@ -1,8 +1,12 @@
 // Why a line of a sheet is refused, each reason with its refusal number and its text.
-ghost use Rattle.std.specs.Prelude.{◌≡◌};
-ghost use Rattle.sheet.specs.Faults.{number_of, reason_of};
+ghost use Rattle.std.specs.Prelude.{◌≡◌, Some};
+ghost use Rattle.sheet.specs.Faults.{number_of, reason_of, stamp_fault};
 
-#[derive(Clone, Copy)]
+use blend::Refusal;
+use std::error::Error;
+use std::fmt;
+
+#[derive(Clone, Copy, PartialEq, Eq, Debug)]
 pub enum LineFault {
     Writer,
     Sequence,
@@ -17,6 +21,7 @@ impl LineFault {
     pub fn number(self) -> u8
         ensures { result ≡ number_of self }
     {
+        // Two pairs of reasons share a number, so it is no discriminant.
         match self {
             LineFault::Writer => 10,
             LineFault::Sequence => 12,
@@ -39,6 +44,30 @@ impl LineFault {
             LineFault::Twice => "the item stands on an earlier line",
             LineFault::Fields => "the fields are not those of the item's kind",
             LineFault::Body => "the values make no body of the item's kind",
+        }
+    }
+}
+
+impl fmt::Display for LineFault {
+    ghost output = { λ fault. Some (reason_of fault) };
+
+    fn fmt<W: fmt::Write>(&self, f: &mut fmt::Formatter<W>) -> fmt::Result {
+        f.write_str(self.reason())
+    }
+}
+
+impl Error for LineFault {}
+
+impl From<Refusal> for LineFault {
+    ghost from_gives = { λ refusal fault. fault ≡ stamp_fault refusal };
+
+    fn from(refusal: Refusal) -> LineFault {
+        match refusal {
+            Refusal::Writer => LineFault::Writer,
+            Refusal::Sequence => LineFault::Sequence,
+            Refusal::List => LineFault::Full,
+            Refusal::Item => LineFault::Item,
+            Refusal::NoBody => LineFault::Body,
         }
     }
 }

@@ -1,21 +1,18 @@
 // The heading of a sheet: writer N sequence N.
 ghost use Rattle.std.specs.Prelude.{◌≡◌};
-ghost use Rattle.sheet.specs.Headings.{stamp_fault, heading_in};
+ghost use Rattle.sheet.specs.Headings.{sequence_in, heading_in};
 
 use super::fault::LineFault;
-use blend::{Refusal, stamp_of};
+use blend::stamp_of;
 use text::{Token, Word, field};
 
-// The fault that a refused stamp is.
-fn fault_of(refusal: Refusal) -> LineFault
-    ensures { result ≡ stamp_fault refusal }
+// The sequence at the end of a heading; 0 where none stands there, since the writer is refused first and then a sequence of 0.
+fn sequence_in(line: &[Token]) -> u64
+    ensures { result ≡ sequence_in line.now }
 {
-    match refusal {
-        Refusal::Writer => LineFault::Writer,
-        Refusal::Sequence => LineFault::Sequence,
-        Refusal::List => LineFault::Full,
-        Refusal::Item => LineFault::Item,
-        Refusal::NoBody => LineFault::Body,
+    match *line {
+        [_, _, Token::Name(Word::Sequence), Token::Number(sequence)] => sequence,
+        _ => 0,
     }
 }
 
@@ -23,20 +20,9 @@ fn fault_of(refusal: Refusal) -> LineFault
 pub fn read_heading(line: &[Token]) -> Result<u32, LineFault>
     ensures { result ≡ heading_in line.now }
 {
-    let Some(writer) = field(line, 0, Word::Writer) else {
-        return Err(LineFault::Writer);
-    };
-    let Ok(writer) = u8::try_from(writer) else {
-        return Err(LineFault::Writer);
-    };
-    let sequence = if line.len() == 4 {
-        field(line, 2, Word::Sequence).unwrap_or(0)
-    } else {
-        0
-    };
-    let sequence = u32::try_from(sequence).unwrap_or(0);
-    match stamp_of(writer, sequence) {
-        Ok(stamp) => Ok(stamp),
-        Err(refusal) => Err(fault_of(refusal)),
-    }
+    let writer = field(line, 0, Word::Writer).ok_or(LineFault::Writer)?;
+    let writer = u8::try_from(writer).map_err(|_| LineFault::Writer)?;
+    // A sequence past 32 bits is refused as 0 is.
+    let sequence = u32::try_from(sequence_in(line)).unwrap_or(0);
+    Ok(stamp_of(writer, sequence)?)
 }

@@ -12,4 +12,4 @@ pub use entry::{Entry, read_entry};
 pub use fault::LineFault;
 pub use heading::read_heading;
 pub use rows::Sheet;
-pub use words::{body_text, entry_text, kind_text, refusal_text, stamp_text};
+pub use words::{EntryBody, RefusedLine, stamp_text};

@@ -1,110 +1,86 @@
-// A body in the words of a sheet.
-ghost use Rattle.std.specs.Prelude.{◌≡◌, IfOk, string_bytes};
+// Entries, refused lines and stamps in words.
+ghost use Rattle.std.specs.Prelude.{Some};
+ghost use Rattle.text.specs.Spelling.{Spells};
 ghost use Rattle.sheet.specs.Faults.{number_of, reason_of};
-ghost use Rattle.sheet.specs.Texts.{kind_name, quantity_words, line_up_words, card_words, words_of_kind, body_words, entry_words, refused_line, stamp_words};
+ghost use Rattle.sheet.specs.Texts.{or_no_body, body_words, entry_words, refused_line, stamp_words};
 
 use super::entry::Entry;
 use super::fault::LineFault;
 use blend::{Body, Kind, LineUp, Quantity, TankCard, kind_of, sequence_of, writer_of};
 use std::alloc::{AllocError, Global};
+use std::error::Error;
+use std::fmt;
+use std::fmt::Display;
 
-// The name of a kind.
-pub fn kind_text(kind: Kind) -> &'static str
-    ensures { result.now ≡ kind_name kind }
-{
-    match kind {
-        Kind::Quantity => "quantity",
-        Kind::LineUp => "line-up",
-        Kind::TankCard => "tank card",
+// A body, or that there is none.
+#[derive(Clone, Copy)]
+struct OrNoBody<B>(Option<B>);
+
+impl<B: Display> Display for OrNoBody<B> {
+    ghost output = { λ x. or_no_body B.Display.output x.0 };
+
+    fn fmt<W: fmt::Write>(&self, f: &mut fmt::Formatter<W>) -> fmt::Result {
+        match &self.0 {
+            Some(body) => write!(f, "{body}"),
+            None => f.write_str("no body"),
+        }
     }
 }
 
-fn quantity_text(heap: Global, x: Option<Quantity>) -> Result<String, AllocError>
-    ensures { IfOk result (λ s. string_bytes s ≡ quantity_words x) }
-{
-    let Some(Quantity { litres, rate }) = x else {
-        return String::from_str(heap, "no body");
-    };
-    format!(in heap; "volume {litres} rate {rate}")
-}
+// The body of an entry's code, as a sheet has it after the item.
+#[derive(Clone, Copy, PartialEq, Eq, Debug)]
+pub struct EntryBody(pub Entry);
 
-fn line_up_text(heap: Global, x: Option<LineUp>) -> Result<String, AllocError>
-    ensures { IfOk result (λ s. string_bytes s ≡ line_up_words x) }
-{
-    let Some(
-        LineUp {
-            source,
-            destination,
-            valves,
-        },
-    ) = x
-    else {
-        return String::from_str(heap, "no body");
-    };
-    format!(in heap; "from {source} to {destination} valves {valves}")
-}
+impl Display for EntryBody {
+    ghost output = { λ x. Some (body_words x.0.item x.0.code) };
 
-fn card_text(heap: Global, x: Option<TankCard>) -> Result<String, AllocError>
-    ensures { IfOk result (λ s. string_bytes s ≡ card_words x) }
-{
-    let Some(TankCard { tank, limit }) = x else {
-        return String::from_str(heap, "no body");
-    };
-    format!(in heap; "tank {tank} limit {limit}")
-}
-
-// The body that a code is of an item of a kind.
-fn text_of_kind(heap: Global, kind: Kind, code: u64) -> Result<String, AllocError>
-    ensures { IfOk result (λ s. string_bytes s ≡ words_of_kind kind code) }
-{
-    match kind {
-        Kind::Quantity => quantity_text(heap, Quantity::decode(code)),
-        Kind::LineUp => line_up_text(heap, LineUp::decode(code)),
-        Kind::TankCard => card_text(heap, TankCard::decode(code)),
-    }
-}
-
-// The body of a code in words, as a sheet has it after the item.
-pub fn body_text(heap: Global, item: u8, code: u64) -> Result<String, AllocError>
-    ensures { IfOk result (λ s. string_bytes s ≡ body_words item code) }
-{
-    match kind_of(item) {
-        Some(kind) => text_of_kind(heap, kind, code),
-        None => String::from_str(heap, "no body"),
+    fn fmt<W: fmt::Write>(&self, f: &mut fmt::Formatter<W>) -> fmt::Result {
+        let Entry { item, code } = self.0;
+        match kind_of(item) {
+            Some(Kind::Quantity) => write!(f, "{}", OrNoBody(Quantity::decode(code))),
+            Some(Kind::LineUp) => write!(f, "{}", OrNoBody(LineUp::decode(code))),
+            Some(Kind::TankCard) => write!(f, "{}", OrNoBody(TankCard::decode(code))),
+            None => f.write_str("no body"),
+        }
     }
 }
 
 // A taken entry: its item, the kind, the code, and the body read back from the code.
-pub fn entry_text(heap: Global, entry: Entry) -> Result<String, AllocError>
-    ensures { IfOk result (λ s. string_bytes s ≡ entry_words entry) }
-{
-    let Some(kind) = kind_of(entry.item) else {
-        return String::from_str(heap, "no item");
-    };
-    let name = kind_text(kind);
-    let body = text_of_kind(heap, kind, entry.code)?;
-    let item = entry.item;
-    let code = entry.code;
-    let words = body.as_str();
-    format!(in heap; "item {item} {name} code {code}: {words}")
-}
+impl Display for Entry {
+    ghost output = { λ entry. Some (entry_words entry) };
 
-fn refused_line(heap: Global, line: usize, number: u8, reason: &str) -> Result<String, AllocError>
-    ensures { IfOk result (λ s. string_bytes s ≡ refused_line line number reason.now) }
-{
-    format!(in heap; "line {line}: refused {number}: {reason}")
+    fn fmt<W: fmt::Write>(&self, f: &mut fmt::Formatter<W>) -> fmt::Result {
+        let Some(kind) = kind_of(self.item) else {
+            return f.write_str("no item");
+        };
+        let Entry { item, code } = *self;
+        let body = EntryBody(*self);
+        write!(f, "item {item} {kind} code {code}: {body}")
+    }
 }
 
 // A refused line: its number, the refusal number, and the reason.
-pub fn refusal_text(heap: Global, line: usize, fault: LineFault) -> Result<String, AllocError>
-    ensures { IfOk result (λ s. string_bytes s ≡ refused_line line (number_of fault) (reason_of fault)) }
-{
-    refused_line(heap, line, fault.number(), fault.reason())
+#[derive(Clone, Copy, PartialEq, Eq, Debug)]
+pub struct RefusedLine {
+    pub line: usize,
+    pub fault: LineFault,
 }
 
-// A stamp with its writer and its sequence.
+impl Display for RefusedLine {
+    ghost output = { λ x. Some (refused_line x.line (number_of x.fault) (reason_of x.fault)) };
+
+    fn fmt<W: fmt::Write>(&self, f: &mut fmt::Formatter<W>) -> fmt::Result {
+        let RefusedLine { line, fault } = *self;
+        let number = fault.number();
+        write!(f, "line {line}: refused {number}: {fault}")
+    }
+}
+
+impl Error for RefusedLine {}
+
+// A stamp with its writer and its sequence. A stamp is a plain number through every layer, so it has no Display of its own.
 pub fn stamp_text(heap: Global, stamp: u32) -> Result<String, AllocError>
-    ensures { IfOk result (λ s. string_bytes s ≡ stamp_words stamp) }
+    ensures { Spells result (stamp_words stamp) }
 {
     let writer = writer_of(stamp);
     let sequence = sequence_of(stamp);

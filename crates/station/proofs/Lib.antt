@@ -1,3 +1,1 @@
-mod Reading
 mod Writing
-mod Wording

@@ -1,30 +1,10 @@
--- One turn of the writing of numbers as text, its end, and that bytes so written read back.
-use Rattle.std.proofs.Common.{◌≡◌, ℕ, ◌+◌, ◌*◌, ◌/◌, ◌%◌, ◌<◌, ◌≤◌, Bool, false, cond, List, [], ◌∷◌, ◌++◌, length, get_or, drop, Some, None, Ok, Option, Result, sym, ap, ◌∙◌, append_assoc, append-nil, arith, rules}
+-- Bytes written as digits read back.
+use Rattle.std.proofs.Common.{◌≡◌, ℕ, ◌+◌, ◌*◌, ◌/◌, ◌%◌, ◌<◌, Bool, false, cond, List, [], ◌∷◌, ◌++◌, Some, None, Ok, Option, Result, sym, ap, ◌∙◌, append_assoc, append-nil, arith, rules}
 use Rattle.std.specs.Char.{digit_char}
 use Rattle.std.specs.Int.Digits.{AllBelowBase}
-use Rattle.std.proofs.lemmas.List.{at_drop_more, at_drop_all}
 use Rattle.text.specs.Tokens.{is_blank}
 use Rattle.station.specs.declared.fault.HexFault.{HexFault}
-use Rattle.station.specs.Hex.{State, hex_value, at_blank, at_digit, hex_step, hex_after, hex_of, byte_hex, pieces, hex_line}
-
--- three characters are added
-pub add_three : (t u v w a b d : List ℕ) (p q r : ℕ) → u ≡ t ++ a → v ≡ u ++ b → w ≡ v ++ d → a ≡ p ∷ [] → b ≡ q ∷ [] → d ≡ r ∷ [] →
-    w ≡ t ++ p ∷ q ∷ r ∷ []
-add_three t u v w a b d p q r e f g k l m =
-    g ∙ ap (λ (x : List ℕ). x ++ d) (f ∙ ap (λ (x : List ℕ). x ++ b) e) ∙ append_assoc (t ++ a) b d ∙ append_assoc t a (b ++ d) ∙
-    ap (λ (x : List ℕ). t ++ (x ++ (b ++ d))) k ∙ ap (λ (x : List ℕ). t ++ p ∷ (x ++ d)) l ∙ ap (λ (x : List ℕ). t ++ p ∷ q ∷ x) m
-
--- the text of the number at i is added
-pub write_more : (f : ℕ → List ℕ) (ns t u whole : List ℕ) (i : ℕ) → i < length ns → u ≡ t ++ f (get_or ns i 0) →
-    t ++ pieces f (drop i ns) ≡ whole → u ++ pieces f (drop (i + 1) ns) ≡ whole
-write_more f ns t u whole i h e inv =
-    let x : List ℕ = f (get_or ns i 0) in
-    let rest : List ℕ = pieces f (drop (i + 1) ns) in
-    ap (λ (y : List ℕ). y ++ rest) e ∙ append_assoc t x rest ∙ ap (λ (y : List ℕ). t ++ y) (sym (at_drop_more (pieces f) ns i 0 h)) ∙ inv
-
--- all are added
-pub write_all : (f : ℕ → List ℕ) (ns t whole : List ℕ) (i : ℕ) → length ns ≤ i → t ++ pieces f (drop i ns) ≡ whole → t ≡ whole
-write_all f ns t whole i h inv = sym (append-nil t) ∙ ap (λ (y : List ℕ). t ++ y) (sym (at_drop_all (pieces f) ns i h)) ∙ inv
+use Rattle.station.specs.Hex.{State, hex_value, at_blank, at_digit, hex_step, hex_after, hex_of, byte_hex, hex_line}
 
 digit_read : (d : ℕ) → d < 16 → hex_value (digit_char d) ≡ Some d
 digit_read d h = search (arith, rules)

@@ -1,21 +1,9 @@
 -- The text of each reason.
-use Rattle.std.specs.Prelude.{ℕ, cond, List, codes, ◌==◌}
+use Rattle.std.specs.Prelude.{ℕ, List, codes}
 use Rattle.station.specs.declared.fault.HexFault.{HexFault}
-use Rattle.station.specs.declared.fault.HexFault.TheVariants.{Digit, Odd}
+use Rattle.station.specs.declared.fault.HexFault.TheVariants.{Digit, Odd, OutOfMemory}
 
 abbrev pub hex_reason : HexFault → List ℕ
 hex_reason Digit = codes "a character is no hexadecimal digit"
 hex_reason Odd = codes "a byte has one digit"
-
--- why a store or a frame is refused, by the number of the refusal
-abbrev pub reason_of : ℕ → List ℕ
-reason_of n =
-    cond (n == 1) (codes "no item has number 0")
-    (cond (n == 2) (codes "no version has stamp 0")
-    (cond (n == 3) (codes "another version is held with the stamp")
-    (cond (n == 4) (codes "there is no space for another version")
-    (cond (n == 5) (codes "no version is held with the stamp")
-    (cond (n == 6) (codes "the frame is of no known kind")
-    (cond (n == 7) (codes "the frame has not the length of its kind")
-    (cond (n == 8) (codes "the buffer is too short")
-    (cond (n == 9) (codes "the reply is none of those listed") (codes "no refusal has the number")))))))))
+hex_reason OutOfMemory = codes "memory allocation failed"

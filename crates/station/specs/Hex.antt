@@ -1,9 +1,10 @@
 -- Bytes as hexadecimal digits.
-use Rattle.std.specs.Prelude.{ℕ, ◌+◌, ◌-◌, ◌*◌, ◌/◌, ◌%◌, ◌<◌, cond, ◌&&◌, List, [], ◌∷◌, ◌++◌, Some, None, Ok, Err, vec_items, Option, Result, Vec, nat_le}
+use Rattle.std.specs.Prelude.{◌≡◌, ℕ, ◌+◌, ◌-◌, ◌*◌, ◌/◌, ◌%◌, ◌<◌, cond, ◌&&◌, List, [], ◌∷◌, ◌++◌, Some, None, Ok, Err, vec_items, Option, Result, Vec, nat_le}
 use Rattle.std.specs.Char.{digit_char}
+use Rattle.std.specs.List.{flat_map}
 use Rattle.text.specs.Tokens.{is_blank}
 use Rattle.station.specs.declared.fault.HexFault.{HexFault}
-use Rattle.station.specs.declared.fault.HexFault.TheVariants.{Digit, Odd}
+use Rattle.station.specs.declared.fault.HexFault.TheVariants.{Digit, Odd, OutOfMemory}
 
 -- 0 to 9, a to f, A to F
 abbrev pub hex_value : ℕ → Option ℕ
@@ -19,10 +20,6 @@ Small (Some d) = d < 16
 -- the bytes so far, and the first digit of the next, if it is read
 abbrev pub State : Type 0
 State = List ℕ × Option ℕ
-
-abbrev pub state_with : List ℕ → Result (Option ℕ) HexFault → Result State HexFault
-state_with xs (Ok half) = Ok (xs, half)
-state_with xs (Err f) = Err f
 
 -- a blank stands between bytes
 abbrev pub at_blank : List ℕ → Option ℕ → Result State HexFault
@@ -52,19 +49,21 @@ hex_after (Ok x) (c ∷ cs) = hex_after (hex_step x c) cs
 abbrev pub hex_of : List ℕ → Result (List ℕ) HexFault
 hex_of line = hex_after (Ok ([], None)) line
 
--- what was read, as a list
-abbrev pub bytes_in : {Z : Type 0} → Result (Vec ℕ Z) HexFault → Result (List ℕ) HexFault
-bytes_in (Ok v) = Ok (vec_items v)
-bytes_in (Err f) = Err f
+-- unless memory ran out, what one more character came to: the bytes after it, and the first digit of the next
+abbrev pub Steps : Result State HexFault → List ℕ → Result (Option ℕ) HexFault → Type 0
+Steps right xs (Ok half) = Ok (xs, half) ≡ right
+Steps right xs (Err OutOfMemory) = Unit {0}
+Steps right xs (Err f) = Err f ≡ right
+
+-- unless memory ran out, what was read is right
+abbrev pub Reads : {Z : Type 0} → Result (List ℕ) HexFault → Result (Vec ℕ Z) HexFault → Type 0
+Reads right (Ok v) = Ok (vec_items v) ≡ right
+Reads right (Err OutOfMemory) = Unit {0}
+Reads right (Err f) = Err f ≡ right
 
 -- a blank and two digits
 abbrev pub byte_hex : ℕ → List ℕ
 byte_hex b = 32 ∷ digit_char (b / 16) ∷ digit_char (b % 16) ∷ []
 
--- the text of each number, one after another
-abbrev pub pieces : (ℕ → List ℕ) → List ℕ → List ℕ
-pieces f [] = []
-pieces f (n ∷ ns) = f n ++ pieces f ns
-
 abbrev pub hex_line : List ℕ → List ℕ
-hex_line bs = pieces byte_hex bs
+hex_line bs = flat_map byte_hex bs

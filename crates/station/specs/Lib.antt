@@ -1,4 +1,3 @@
 pub mod Faults
 pub mod Hex
-pub mod Answers
 pub mod Words

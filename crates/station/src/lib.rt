@@ -4,10 +4,9 @@
 
 mod fault;
 mod hex;
-mod serving;
 mod words;
 
 pub use fault::HexFault;
+pub use frames::refusal_reason;
 pub use hex::{hex_bytes, hex_text};
-pub use serving::{Answer, serve_line};
-pub use words::{refusal_reason, reply_meaning, request_meaning};
+pub use words::{reply_meaning, request_meaning};

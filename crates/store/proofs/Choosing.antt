@@ -1,34 +1,23 @@
 -- A pick is the latest held version among the stamps. Also the step of a loop over the stamps.
-use Rattle.std.proofs.Common.{◌≡◌, ℕ, zero, suc, ◌<◌, Bool, true, false, cond, ◌⊎◌, List, [], ◌∷◌, ◌++◌, length, get_or, is_some, Some, None, Option, sym, refl, ap, ◌∙◌, inl, inr, ⊎_elim, arith}
-use Rattle.std.proofs.lemmas.Bool.{both_ways, cond-true, cond-false, cond_both, cases_eq}
-use Rattle.blend.specs.Stamps.{later, later_of}
-use Rattle.blend.proofs.Order.{never_itself, onward, zero_first, not_both, not_later_on}
-use Rattle.store.specs.Meaning.{Content, version_with, later_version, later_with, latest_held, version_of, picked}
+use Rattle.std.proofs.Common.{◌≡◌, ℕ, zero, suc, ◌<◌, Bool, true, false, cond, ◌⊎◌, List, [], ◌∷◌, ◌++◌, length, get_or, is_some, Some, None, Option, sym, refl, ap, ◌∙◌, inl, inr, arith}
+use Rattle.std.proofs.lemmas.Bool.{both_ways, cond-true, cond-false}
+use Rattle.blend.specs.Stamps.{later}
+use Rattle.blend.proofs.Order.{never_itself, onward, zero_first, never_before_zero, not_both, not_later_on}
+use Rattle.std.specs.List.{fold}
+use Rattle.std.proofs.lemmas.List.Sums.{fold-append}
+use Rattle.store.specs.Meaning.{Content, Version, blank, version_with, later_version, later_with, latest_held, version_of, picked}
 use Rattle.store.specs.Choice.{LatestOf, NoneOf, PicksTheLatest}
 
 none_not_some : (o : Option Content) → o ≡ None → is_some o ≡ true → ⊥
 none_not_some o e h = both_ways (is_some o) (ap is_some e) h
 
-later_of_assoc : (x y z : ℕ) (a b : Bool) → later z y ≡ a → later y x ≡ b → later_of x (later_of y z) ≡ later_of (later_of x y) z
-later_of_assoc x y z true true p q = let t = onward x y z q p in simp (p, q, t)
-later_of_assoc x y z true false p q = simp (p, q)
-later_of_assoc x y z false true p q = simp (p, q)
-later_of_assoc x y z false false p q = let t = not_later_on x y z q p in simp (p, q, t)
-
--- the later of a stamp found before, if any, and one more
-abbrev later_after : Option ℕ → ℕ → ℕ
-later_after None s = s
-later_after (Some t) s = later_of t s
-
--- one more stamp at the end passes a first one
-push_past : (x s : ℕ) (a b : Bool) (o : Option ℕ) →
-    cond a (Some (later_with x (cond b (Some (later_after o s)) o))) (cond b (Some (later_after o s)) o)
-    ≡ cond b (Some (later_after (cond a (Some (later_with x o)) o) s)) (cond a (Some (later_with x o)) o)
-push_past x s true true None = refl
-push_past x s true true (Some t) = ap Some (later_of_assoc x t s (later s t) (later t x) refl refl)
-push_past x s true false o = refl
-push_past x s false true o = refl
-push_past x s false false o = refl
+-- of three versions the latest, in either order of choosing
+later_version_assoc : (x y z : Version) (a b : Bool) → later z.0 y.0 ≡ a → later y.0 x.0 ≡ b →
+    later_version (later_version x y) z ≡ later_version x (later_version y z)
+later_version_assoc x y z true true p q = let t = onward x.0 y.0 z.0 q p in simp (p, q, t)
+later_version_assoc x y z true false p q = simp (p, q)
+later_version_assoc x y z false true p q = simp (p, q)
+later_version_assoc x y z false false p q = let t = not_later_on x.0 y.0 z.0 q p in simp (p, q, t)
 
 module _ (h : ℕ → Option Content) where
   record Top (ss : List ℕ) (t : ℕ) : Type 0 where
@@ -107,46 +96,43 @@ module _ (h : ℕ → Option Content) where
         latest = λ k l g. ap (later (get_or ss k 0)) same ∙ f.latest k l g;
       })
 
-  -- ── one more stamp at the end ──
+  -- ── a fold over the stamps, where stamp 0 is not held ──
 
-  latest_push : (ss : List ℕ) (s : ℕ) →
-      latest_held h (ss ++ s ∷ []) ≡ cond (is_some (h s)) (Some (later_after (latest_held h ss) s)) (latest_held h ss)
-  latest_push [] s = refl
-  latest_push (x ∷ xs) s =
-      ap (λ o. cond (is_some (h x)) (Some (later_with x o)) o) (latest_push xs s)
-      ∙ push_past x s (is_some (h x)) (is_some (h s)) (latest_held h xs)
+  module _ (none : is_some (h 0) ≡ false) where
+    -- blanks before what is picked change nothing
+    blank_first : (ss : List ℕ) (o : Option ℕ) → Found ss o → later_version blank (version_of h o) ≡ version_of h o
+    blank_first ss None f = simp (never_itself 0)
+    blank_first ss (Some t) f =
+        let real : t ≡ 0 → ⊥ = λ z. both_ways (is_some (h t)) (ap (λ n. is_some (h n)) z ∙ none) f.held in
+        cond-true _ _ _ (ap (λ n. later n 0) (stamp_kept t (h t) f.held) ∙ zero_first t (omega arith))
 
-  -- a stamp that is not held changes nothing
-  pub pick_skips : (ss : List ℕ) (s : ℕ) → h s ≡ None → picked h (ss ++ s ∷ []) ≡ picked h ss
-  pick_skips ss s e = ap (version_of h) (latest_push ss s ∙ cond-false (is_some (h s)) _ _ (ap is_some e))
+    pick_cons : (s : ℕ) (ss : List ℕ) (c : Option Content) → h s ≡ c → (o : Option ℕ) → Found ss o →
+        version_of h (cond (is_some c) (Some (later_with s o)) o) ≡ later_version (version_with s c) (version_of h o)
+    pick_cons s ss None e o f = sym (blank_first ss o f)
+    pick_cons s ss (Some x) e None f = simp (e, never_before_zero s)
+    pick_cons s ss (Some x) e (Some t) f =
+        elim (later t s) as (λ b. version_with (cond b t s) (h (cond b t s)) ≡ cond b (version_with t (h t)) (s, x.0, x.1)) [
+          | true ↦ refl
+          | false ↦ ap (version_with s) e
+        ]
+        ∙ ap (λ n. cond (later n s) (version_with t (h t)) (s, x.0, x.1)) (sym (stamp_kept t (h t) f.held))
 
-  rises_by : (ss : List ℕ) (o : Option ℕ) → Found ss o → (s : ℕ) (x : Content) → h s ≡ Some x → later s (version_of h o).0 ≡ true →
-      version_of h (Some (later_after o s)) ≡ (s, x.0, x.1)
-  rises_by ss None f s x e g = ap (version_with s) e
-  rises_by ss (Some t) f s x e g =
-      let rose = ap (later s) (sym (stamp_kept t (h t) f.held)) ∙ g in
-      ap (λ u. version_with u (h u)) (cond-true (later s t) s t rose) ∙ ap (version_with s) e
+    pick_onto : (best : Version) (ss : List ℕ) →
+        fold (λ v s. later_version v (version_with s (h s))) best ss ≡ later_version best (picked h ss)
+    pick_onto best [] = sym (cond-false _ _ _ (never_before_zero best.0))
+    pick_onto best (s ∷ ss) =
+        pick_onto (later_version best (version_with s (h s))) ss
+        ∙ later_version_assoc best (version_with s (h s)) (picked h ss) _ _ refl refl
+        ∙ ap (later_version best) (sym (pick_cons s ss (h s) refl (latest_held h ss) (found ss)))
 
-  stays_by : (ss : List ℕ) (o : Option ℕ) → Found ss o → h 0 ≡ None → (s : ℕ) (x : Content) → h s ≡ Some x →
-      later s (version_of h o).0 ≡ false → version_of h (Some (later_after o s)) ≡ version_of h o
-  stays_by ss None f none s x e g =
-      absurd (⊎_elim
-      (λ z. none_not_some (h s) (ap h z ∙ none) (ap is_some e))
-      (λ ne. both_ways (later s 0) g (zero_first s (omega arith)))
-      (cases_eq s 0))
-  stays_by ss (Some t) f none s x e g =
-      let stayed = ap (later s) (sym (stamp_kept t (h t) f.held)) ∙ g in
-      ap (λ u. version_with u (h u)) (cond-false (later s t) s t stayed)
+    pub pick_fold : (ss : List ℕ) → fold (λ v s. later_version v (version_with s (h s))) blank ss ≡ picked h ss
+    pick_fold ss = pick_onto blank ss ∙ blank_first ss (latest_held h ss) (found ss)
 
-  -- where stamp 0 is not held, a held stamp gives the later of its version and the one picked so far
-  pub pick_more : h 0 ≡ None → (ss : List ℕ) (s : ℕ) (x : Content) → h s ≡ Some x →
-      picked h (ss ++ s ∷ []) ≡ later_version (picked h ss) (s, x.0, x.1)
-  pick_more none ss s x e =
-      let o = latest_held h ss in
-      ap (version_of h) (latest_push ss s ∙ cond-true (is_some (h s)) _ _ (ap is_some e))
-      ∙ cond_both (later s (picked h ss).0) (s, x.0, x.1) (picked h ss) (λ y. version_of h (Some (later_after o s)) ≡ y)
-      (rises_by ss o (found ss) s x e)
-      (stays_by ss o (found ss) none s x e)
+    pub pick_push : (ss : List ℕ) (s : ℕ) → picked h (ss ++ s ∷ []) ≡ later_version (picked h ss) (version_with s (h s))
+    pick_push ss s =
+        sym (pick_fold (ss ++ s ∷ []))
+        ∙ fold-append (λ v s. later_version v (version_with s (h s))) blank ss (s ∷ [])
+        ∙ ap (λ v. later_version v (version_with s (h s))) (pick_fold ss)
 
 pub picks : PicksTheLatest
 picks h ss = by_found h ss (latest_held h ss) (found h ss)

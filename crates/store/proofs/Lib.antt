@@ -3,3 +3,4 @@ pub mod Passing
 pub mod Room
 pub mod Parts
 pub mod Zeros
+pub mod Firsts

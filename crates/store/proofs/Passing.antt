@@ -1,9 +1,12 @@
 -- What it says of a meaning that a call passes its tests, and when it does.
-use Rattle.std.proofs.Common.{◌≡◌, ℕ, zero, suc, ◌<◌, true, false, eqb, [], ◌∷◌, get_or, is_some, Some, None, Option, refl, ap, ◌∙◌, arith}
+use Rattle.std.proofs.Common.{◌≡◌, ℕ, zero, suc, ◌<◌, Bool, true, false, not, ◌&&◌, if◌then◌else◌, eqb, [], ◌∷◌, get_or, is_some, Some, None, Option, Ok, Err, Result, refl, ap, ◌∙◌, arith}
 use Rattle.std.proofs.lemmas.Bool.{ne_eqb, eqb-true, and_parts, not-false, false≢true}
 use Rattle.blend.specs.Refusals.{Tests, first_of}
+use Rattle.std.proofs.lemmas.Bool.Decides.{nat_tests}
+use Rattle.store.specs.declared.StoreFault.{StoreFault}
+use Rattle.store.specs.declared.StoreFault.TheVariants.{Clash}
 use Rattle.store.specs.Meaning.{View, Content}
-use Rattle.store.specs.Tests.{clashes, put_tests, commit_tests}
+use Rattle.store.specs.Tests.{clashes, put_tests, commit_tests, version_tests}
 
 -- where a call passes, none of its tests fires
 pub passed : (ts : Tests) → first_of ts ≡ None → (k : ℕ) → (get_or ts k (0, false)).1 ≡ false
@@ -38,3 +41,20 @@ commit_passes v i s io so there =
     let a : eqb i 0 ≡ false = ne_eqb i 0 (λ e. omega arith) in
     let b : eqb s 0 ≡ false = ne_eqb s 0 (λ e. omega arith) in
     simp (a, b, there)
+
+-- what the first tests of put and commit leave
+pub real : (item stamp : ℕ) → first_of (version_tests item stamp) ≡ None → (0 < item) × (0 < stamp)
+real item stamp e =
+    let a = passed (version_tests item stamp) e 0 in
+    let b = passed (version_tests item stamp) e 1 in
+    (grind (arith, nat_tests), grind (arith, nat_tests))
+
+-- a version is new only where nothing is held
+pub new_none : (o : Option Content) (code mark : ℕ) (fresh : Bool) →
+    ◌≡◌ {A = Result Bool StoreFault} (Ok fresh) (if clashes o code mark then Err Clash else Ok (not (is_some o))) → fresh ≡ true → o ≡ None
+new_none None code mark fresh e t = refl
+new_none (Some x) code mark fresh e t =
+    elim (not (eqb x.0 code && eqb x.1 mark)) as (λ b. ◌≡◌ {A = Result Bool StoreFault} (Ok fresh) (if b then Err Clash else Ok false) → Some x ≡ None) [
+      | true ↦ λ g. cc
+      | false ↦ λ g. cc
+    ] e

@@ -4,3 +4,4 @@ pub mod Tests
 pub mod Outcomes
 pub mod Choice
 pub mod Room
+pub mod Reasons

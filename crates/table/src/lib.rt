@@ -15,7 +15,8 @@ struct Row {
     mark: u64,
 }
 
-// Rows are found by item and stamp, and the last stamps stand by item. No row has stamp 0.
+// Rows are found by item and stamp, and the last stamps stand by item. No row has stamp 0. A map would allocate in put; the capacity
+// may be more than the size that was asked for.
 #[derive(Drop)]
 pub struct Table {
     rows: Vec<Row>,

@@ -6,7 +6,7 @@ ghost use Rattle.text.specs.Numbers.{digit_after, number_at};
 fn with_digit(n: u64, b: u8) -> Option<u64>
     ensures { result ≡ digit_after n b }
 {
-    if b < b'0' || b > b'9' {
+    if !b.is_ascii_digit() {
         return None;
     }
     let tens = n.checked_mul(10)?;
@@ -20,12 +20,9 @@ pub fn number_of(text: &[u8]) -> Option<u64>
     if text.is_empty() {
         return None;
     }
-    let mut n = 0u64;
+    let mut n = 0;
     for b in text {
-        let Some(more) = with_digit(n, *b) else {
-            return None;
-        };
-        n = more;
+        n = with_digit(n, *b)?;
     }
     Some(n)
 }

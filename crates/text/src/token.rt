@@ -1,13 +1,13 @@
 // A line cut at its blanks into tokens.
-ghost use Rattle.std.specs.Prelude.{◌≡◌, ◌++◌, is_ok, IfOk, if◌then◌else◌, slice_index_or};
+ghost use Rattle.std.specs.Prelude.{◌≡◌, IfOk, slice_index_or};
 ghost use Rattle.text.specs.declared.token.Token.TheVariants.{Other};
-ghost use Rattle.text.specs.Tokens.{is_blank as blank_byte, token_at, token_if, tokens_of, number_in, is_word, field_at};
+ghost use Rattle.text.specs.Tokens.{is_blank as blank_byte, token_at, tokens_of, number_in, is_word, field_at};
 
 use super::number::number_of;
 use super::word::Word;
 use std::alloc::{AllocError, Global};
 
-#[derive(Clone, Copy)]
+#[derive(Clone, Copy, PartialEq, Eq, Debug)]
 pub enum Token {
     Number(u64),
     Name(Word),
@@ -18,7 +18,7 @@ pub enum Token {
 pub fn is_blank(b: u8) -> bool
     ensures { result ≡ blank_byte b }
 {
-    b == 32 || b == 9 || b == 13
+    matches!(b, b' ' | b'\t' | b'\r')
 }
 
 impl Token {
@@ -28,8 +28,7 @@ impl Token {
     {
         match self {
             Token::Number(n) => Some(n),
-            Token::Name(_) => None,
-            Token::Other => None,
+            Token::Name(_) | Token::Other => None,
         }
     }
 
@@ -37,11 +36,7 @@ impl Token {
     pub fn is(self, word: Word) -> bool
         ensures { result ≡ is_word self word }
     {
-        match self {
-            Token::Name(name) => name.index() == word.index(),
-            Token::Number(_) => false,
-            Token::Other => false,
-        }
+        self == Token::Name(word)
     }
 
     // The token that a word of the text is.
@@ -51,49 +46,25 @@ impl Token {
         if let Some(n) = number_of(text) {
             return Token::Number(n);
         }
-        match Word::read(text) {
-            Some(word) => Token::Name(word),
-            None => Token::Other,
-        }
+        Word::read(text).map_or(Token::Other, Token::Name)
     }
-}
-
-// Adds the token of a word, unless the word is empty.
-fn add(found: &mut Vec<Token>, word: &[u8]) -> Result<(), AllocError>
-    ensures { found.new.items ≡ (if is_ok result then found.old.items ++ token_if word.now else found.old.items) }
-{
-    if word.is_empty() {
-        return Ok(());
-    }
-    found.push(Token::read(word))?;
-    Ok(())
 }
 
 // The tokens of a line.
 pub fn tokens(heap: Global, line: &[u8]) -> Result<Vec<Token>, AllocError>
     ensures { IfOk result (λ v. v.items ≡ tokens_of line.now) }
 {
-    let mut found = Vec::new(heap);
-    let mut start = 0;
-    for i in 0..line.len() {
-        if is_blank(line[i]) {
-            add(&mut found, &line[start..i])?;
-            start = i + 1;
-        }
-    }
-    add(&mut found, &line[start..])?;
-    Ok(found)
+    line.split(|b| is_blank(*b))
+        .filter(|word| !word.is_empty())
+        .map(Token::read)
+        .collect(heap)
 }
 
 // The token at a place of the line; past its end neither a number nor a word.
 pub fn token_at(line: &[Token], place: usize) -> Token
     ensures { result ≡ slice_index_or line.now place Other }
 {
-    if place < line.len() {
-        line[place]
-    } else {
-        Token::Other
-    }
+    line.get(place).copied().unwrap_or(Token::Other)
 }
 
 // The number after a word that stands at a place of the line, if both are there.

@@ -1,9 +1,8 @@
 // The words that sheets and scripts use, each with its spelling.
 ghost use Rattle.std.specs.Prelude.{◌≡◌};
-ghost use Rattle.std.specs.Str.{bytes_eq};
-ghost use Rattle.text.specs.Words.{index_of, spelled, word_among, word_at};
+ghost use Rattle.text.specs.Words.{index_of, spelled, word_at};
 
-#[derive(Clone, Copy)]
+#[derive(Clone, Copy, PartialEq, Eq, Debug)]
 pub enum Word {
     Writer,
     Sequence,
@@ -25,28 +24,6 @@ pub enum Word {
     Take,
     Release,
 }
-
-const ALL: [Word; 19] = [
-    Word::Writer,
-    Word::Sequence,
-    Word::Volume,
-    Word::Rate,
-    Word::From,
-    Word::To,
-    Word::Valves,
-    Word::Tank,
-    Word::Limit,
-    Word::File,
-    Word::Prepare,
-    Word::Commit,
-    Word::Close,
-    Word::Withdraw,
-    Word::Open,
-    Word::First,
-    Word::Second,
-    Word::Take,
-    Word::Release,
-];
 
 impl Word {
     // The place of the word among all words.
@@ -82,28 +59,31 @@ impl Word {
         }
     }
 
-    fn is(self, text: &[u8]) -> bool
-        ensures { result ≡ bytes_eq text.now (spelled self) }
-    {
-        text == self.spelling()
-    }
-
     // The word that the text spells, if any.
     pub fn read(text: &[u8]) -> Option<Word>
         ensures { result ≡ word_at text.now }
     {
-        among(&ALL, text)
-    }
-}
-
-// The first of the words that the text spells, if any.
-fn among(words: &[Word], text: &[u8]) -> Option<Word>
-    ensures { result ≡ word_among words.now text.now }
-{
-    for word in words {
-        if word.is(text) {
-            return Some(*word);
+        match text {
+            b"writer" => Some(Word::Writer),
+            b"sequence" => Some(Word::Sequence),
+            b"volume" => Some(Word::Volume),
+            b"rate" => Some(Word::Rate),
+            b"from" => Some(Word::From),
+            b"to" => Some(Word::To),
+            b"valves" => Some(Word::Valves),
+            b"tank" => Some(Word::Tank),
+            b"limit" => Some(Word::Limit),
+            b"file" => Some(Word::File),
+            b"prepare" => Some(Word::Prepare),
+            b"commit" => Some(Word::Commit),
+            b"close" => Some(Word::Close),
+            b"withdraw" => Some(Word::Withdraw),
+            b"open" => Some(Word::Open),
+            b"first" => Some(Word::First),
+            b"second" => Some(Word::Second),
+            b"take" => Some(Word::Take),
+            b"release" => Some(Word::Release),
+            _ => None,
         }
     }
-    None
 }

@@ -1,28 +1,21 @@
-use Rattle.std.proofs.Common.{◌≡◌, ℕ, ◌+◌, List, [], ◌∷◌, drop, sym, ap, ◌∙◌, arith}
+use Rattle.std.proofs.Common.{◌≡◌, List, [], ◌∷◌, refl, rules}
+use Rattle.std.specs.Iterator.{YieldsFirst}
+use Rattle.std.proofs.lemmas.Fn.{fold_over}
+use Rattle.std.proofs.lemmas.Iterator.Consumers.{YieldsList-from_first}
 use Rattle.journal.specs.declared.record.Record.{Record}
-use Rattle.journal.specs.Records.{records, size}
+use Rattle.journal.specs.declared.scan.Records.{Records}
+use Rattle.journal.specs.Records.{records}
 use Rattle.journal.specs.Held.{last_from}
-use Rattle.journal.proofs.Scans.{at_some, at_none}
 use Rattle.journal.proofs.Counts.{last_append}
 use Rattle.journal.proofs.scan.last_of.Goals as goal
 
-pub loop-record-preserved : goal.loop-record-preserved
-loop-record-preserved c =
-    let bs : List ℕ = c.args.bytes.now in
-    let r : Record = c.in-Some.record in
-    let i : ℕ = c.args.item in
-    let a = at_some bs c.loop-record.at r c.loop-record.invariant.0 c.in-Some.ensures in
-    let n : c.size-at.result ≡ size r = c.size-at.ensures in
-    let rest : List Record = records (drop (c.loop-record.at + size r) bs) in (
-      omega (arith, a.within),
-      ap (λ (k : ℕ). last_from c.raise-last.result (records (drop (c.loop-record.at + k) bs)) i) n
-          ∙ ap (λ (l : ℕ). last_from l rest i) c.raise-last.ensures
-          ∙ sym (last_append c.loop-record.last (r ∷ []) rest i)
-          ∙ sym (ap (λ (l : List Record). last_from c.loop-record.last l i) a.records_are)
-          ∙ c.loop-record.invariant.1,
-    )
-
 pub returns : goal.returns
 returns c =
-    sym (ap (λ (l : List Record). last_from c.loop-record.last l c.args.item) (at_none c.args.bytes.now c.loop-record.at c.in_default.ensures))
-    ∙ c.loop-record.invariant.1
+    let i = c.args.item in
+    let rest : Records → List Record = λ r. records r.0.now in
+    let s : Records = record { 0 = record { ref_ptr = _; now = c.args.bytes.now } } in
+    fold_over (YieldsFirst rest) (λ x. x) _ (λ rs l. l ≡ last_from 0 rs i) _
+    (λ rs a x b f' j k.
+    let more = last_append 0 rs (x ∷ []) i in
+    search rules)
+    s (rest s) _ _ (YieldsList-from_first (λ x. x) rest (rest s) refl).runs refl c.fold.ensures.ran

@@ -1,8 +1,6 @@
 use Rattle.std.proofs.Common.{◌≡◌, length, vec_items, arith, rules}
-use Rattle.protocol.specs.Naming.{Lawful}
 use Rattle.protocol.specs.Law.{start}
 use Rattle.protocol.proofs.Whole.{reads_stay_whole}
-use Rattle.rows.specs.Rules.{rule_of}
 use Rattle.service.specs.Meaning.{meaning}
 use Rattle.runs.proofs.Happened.{trace_more, trace_all}
 use Rattle.runs.proofs.driver.run.Goals as goal
@@ -12,7 +10,7 @@ loop-call-init g c = (start, search rules, search rules)
 
 pub loop-call-preserved : goal.loop-call-preserved
 loop-call-preserved g c =
-    let ν = rule_of g.N.Naming.marks g.N.Naming.named g.N.Naming.twice in
+    let ν = g.N.Naming.rule in
     let view = g.S.Store.view in
     let k = c.loop-call.call-index in
     let old = c.loop-call.answers in
@@ -27,11 +25,10 @@ loop-call-preserved g c =
 
 pub returns : goal.returns
 returns g c =
-    let ν = rule_of g.N.Naming.marks g.N.Naming.named g.N.Naming.twice in
+    let ν = g.N.Naming.rule in
     let view = g.S.Store.view in
-    let lawful : Lawful ν = record { complete = g.met.N.Naming.complete; nonzero = g.met.N.Naming.nonzero } in
     let t =
     trace_all ν (meaning view c.args.service.now) (meaning view c.loop-call.service) c.args.calls.now
     (vec_items c.loop-call.answers) c.loop-call.call-index (omega arith) c.loop-call.invariant.0
     in
-    record { trace = t; whole = λ u. reads_stay_whole ν lawful _ _ _ (g.met.S.Store.last_held c.args.service.now.store) u t }
+    record { trace = t; whole = λ u. reads_stay_whole g.N.Naming.rule g.met.N.Naming.lawful _ _ _ (g.met.S.Store.last_held c.args.service.now.store) u t }

@@ -1,10 +1,12 @@
-use Rattle.std.proofs.Common.{◌∙◌, arith}
-use Rattle.script.specs.Entries.{lists_of, in_terms}
-use Rattle.script.proofs.Steps.{file_line}
+use Rattle.std.proofs.Common.{arith}
+use Rattle.std.proofs.lemmas.Grind.{common_steps}
+use Rattle.runs.specs.Runs.{call_of}
+use Rattle.script.specs.Entries.{lists_of}
+use Rattle.script.proofs.Steps.{error_read, narrowed_byte, narrowed_sequence}
 use Rattle.script.proofs.calls.read_file.Goals as goal
 
-pub returns : goal.returns
-returns c =
-    c.filed.ensures ∙
-    file_line c.args.line.now c.byte_at.result c.sequence_at.result (in_terms lists_of c.in_ok-lists.lists) (omega arith)
-    c.byte_at.ensures c.sequence_at.ensures c.in_ok-lists.ensures
+pub returns-in_err-items : goal.returns-in_err-items
+returns-in_err-items c =
+    let a = narrowed_byte _ _ _ c.in_ok-writer.ensures in
+    let b = narrowed_sequence _ _ _ c.in_ok-sequence.ensures in
+    error_read lists_of call_of _ _ _ _ c.in_err-items.ensures c.from_residual-in_err-items.ensures.1 (λ k p. grind (arith, common_steps, a, b, p))

@@ -1,23 +1,20 @@
-use Rattle.std.proofs.Common.{◌+◌, vec_items, ap, arith}
-use Rattle.text.proofs.Steps.{scan_same, scan_cut, scan_more, scan_all}
+use Rattle.std.proofs.Common.{◌==◌, length, not, rules, tests}
+use Rattle.std.proofs.lemmas.Iterator.{items_from_collect, YieldsList-from_map}
+use Rattle.std.proofs.lemmas.Iterator.Consumers.{YieldsList-at, YieldsList-from_filter}
+use Rattle.std.proofs.lemmas.Iterator.Splits.{YieldsList-from_slice_split}
+use Rattle.text.specs.Tokens.{is_blank, token_at}
+use Rattle.text.proofs.Steps.{split_tokens}
 use Rattle.text.proofs.token.tokens.Goals as goal
-use Rattle.text.proofs.token.tokens.Goals.{then-is_blank+in_ok-add, else-is_blank}
-
-pub loop-i-preserved : goal.loop-i-preserved
-loop-i-preserved c = elim c.if-is_blank.branch [
-  | then-is_blank+in_ok-add w ↦
-      scan_same c.args.line.now (vec_items w.add.new.found) (vec_items c.if-is_blank.found) (c.loop-i.i + 1)
-      c.if-is_blank.start (c.loop-i.i + 1) (ap vec_items w.found-is) w.start-is
-      (scan_cut c.args.line.now (vec_items c.loop-i.found) (vec_items w.add.new.found) c.loop-i.start c.loop-i.i
-      (omega arith) c.loop-i.invariant w.if-is_blank.ensures w.in_ok-add.ensures)
-  | else-is_blank w ↦
-      scan_same c.args.line.now (vec_items c.loop-i.found) (vec_items c.if-is_blank.found) c.loop-i.start
-      c.if-is_blank.start (c.loop-i.i + 1) (ap vec_items w.found-is) w.start-is
-      (scan_more c.args.line.now (vec_items c.loop-i.found) c.loop-i.start c.loop-i.i (omega arith) c.loop-i.invariant
-      w.if-is_blank.ensures)
-]
 
 pub returns : goal.returns
 returns c =
-    scan_all c.args.line.now (vec_items c.loop-i.found) (vec_items c.add-2.new.found) c.loop-i.start c.loop-i.i
-    (omega arith) c.loop-i.invariant c.in_ok-add-2.ensures
+    rw (← split_tokens c.args.line.now)
+    (items_from_collect c.collect.result c.collect.ensures.ran
+    (YieldsList-from_map _ token_at
+    (YieldsList-at c.map.ensures.source
+    (YieldsList-from_filter _ (λ w. not (length w == 0))
+    (YieldsList-at c.filter.ensures.source
+    (YieldsList-from_slice_split _ is_blank c.args.line.now c.split.ensures.rest c.split.ensures.done c.split.ensures.closure
+    (λ x b q k. search (rules, tests))))
+    c.filter.ensures.closure (λ x b q k. search (rules, tests))))
+    c.map.ensures.closure (λ x r q k. search rules)))

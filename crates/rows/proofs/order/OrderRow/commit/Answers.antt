@@ -1,8 +1,6 @@
-use Rattle.protocol.specs.Step.{committed_at}
-use Rattle.rows.proofs.Changed.{order_changed}
+use Rattle.std.proofs.Common.{arith}
+use Rattle.rows.proofs.Changed.{row_committed}
 use Rattle.rows.proofs.order.OrderRow.commit.Goals as goal
 
-pub returns-in-Some : goal.returns-in-Some
-returns-in-Some c = λ h w.
-    order_changed w c.args.self.now c.in-Some.order c.set_committed.new.self (λ x. committed_at x c.args.place)
-    c.in-Some.is (c.set_committed.ensures h w)
+pub returns-then-place-lt8 : goal.returns-then-place-lt8
+returns-then-place-lt8 c = λ h w. rw c.from.ensures (row_committed w c.args.self.now c.in-Some.order c.args.place (grind arith) c.in-Some.order.few c.in-Some.is)

@@ -1,22 +1,17 @@
-use Rattle.std.proofs.Common.{ℕ, Bool, not, sym, ◌∙◌}
-use Rattle.std.proofs.lemmas.Bool.{not_from_true, not_from_false}
-use Rattle.protocol.specs.Asks.{due_second, progress}
+use Rattle.std.proofs.Common.{◌≡◌, ℕ, Bool, true, not, ◌&&◌, length, sym, refl, ap, ◌∙◌, rules, tests, arith}
+use Rattle.std.proofs.lemmas.Iterator.{YieldsList-from_range}
+use Rattle.std.proofs.lemmas.Iterator.Search.{all_from_yields_List}
+use Rattle.protocol.specs.Asks.{due_second, progress, all_below, all_made}
 use Rattle.rows.specs.Rows.{read_in}
-use Rattle.rows.specs.Rules.{rule_of}
-use Rattle.rows.proofs.Below.{all_failed, all_more}
+use Rattle.rows.proofs.Below.{all_range, length_listed}
 use Rattle.rows.proofs.read.OpenRead.is_finished.Goals as goal
-use Rattle.rows.proofs.read.OpenRead.is_finished.Goals.{then-is_due, else-is_due}
 
-pub loop-p-preserved : goal.loop-p-preserved
-loop-p-preserved g c =
-    let ν = rule_of g.N.Naming.marks g.N.Naming.named g.N.Naming.twice in
-    let due : ℕ → Bool = due_second ν (progress (read_in c.args.self.now)) in
-    let p = c.loop-p.p in
-    elim c.if-is_due.branch [
-      | then-is_due w ↦
-          w.quiet-is ∙ all_failed (λ k. not (due k)) p (not_from_true (due p) (sym c.is_due.ensures ∙ w.if-is_due.true))
-      | else-is_due w ↦
-          w.quiet-is ∙
-          all_more (λ k. not (due k)) p c.loop-p.quiet c.loop-p.invariant
-          (not_from_false (due p) (sym c.is_due.ensures ∙ w.if-is_due.false))
-    ]
+pub returns-then-all_made : goal.returns-then-all_made
+returns-then-all_made g c =
+    let x = c.args.self.now in
+    let quiet : ℕ → Bool = λ p. not (due_second g.N.Naming.rule (progress (read_in x)) p) in
+    let made : all_made (progress (read_in x)) ≡ true = sym c.all_made.ensures ∙ c.if-all_made.true in
+    let long : length x.places ≡ 8 = grind arith in
+    all_from_yields_List quiet _ _ _ c.all.ensures.ran (YieldsList-from_range 0 x.count x.count refl (omega arith)) (λ q b f k. search (rules, tests))
+    ∙ sym (all_range quiet x.count) ∙ ap (λ n. all_below n quiet) (sym (length_listed (λ p. p.item) x.count x.places x.few long))
+    ∙ sym (ap (λ (t : Bool). t && all_below (length (read_in x).items) quiet) made)

@@ -1,4 +1,5 @@
-use Rattle.std.proofs.Common.{◌<◌, length, get_or, is_some, vec_items, ap, ◌∙◌, arith, rules}
+use Rattle.std.proofs.Common.{◌≡◌, ◌<◌, length, get_or, is_some, vec_items, None, sym, ap, ◌∙◌, arith}
+use Rattle.store.proofs.Passing.{real, new_none}
 use Rattle.table.specs.Rows.{lookup}
 use Rattle.table.proofs.Rows.{push_done, push_keeps, push_other}
 use Rattle.table.proofs.calls.TableStore.put.Goals as goal
@@ -6,6 +7,7 @@ use Rattle.table.proofs.calls.TableStore.put.Goals as goal
 pub invariant_of-self : goal.invariant_of-self
 invariant_of-self c =
     let rs = vec_items c.args.self.now.rows in
+    let numbers = real c.args.item c.args.stamp c.in_ok-check_version.ensures in
     let e = c.push_reserved.ensures.items in
     record {
       within = omega arith;
@@ -14,8 +16,11 @@ invariant_of-self c =
       committed = λ i h. ap (λ l. is_some (lookup l i (get_or c.args.self.now.lasts i 0))) e ∙ push_keeps rs _ i _ (c.args.self.now.committed i h);
     }
 
-pub returns-else-len-self : goal.returns-else-len-self
-returns-else-len-self c =
+pub returns : goal.returns
+returns c =
     let rs = vec_items c.args.self.now.rows in
+    let numbers = real c.args.item c.args.stamp c.in_ok-check_version.ensures in
+    let none : lookup rs c.args.item c.args.stamp ≡ None =
+    sym c.find.ensures ∙ new_none c.find.result c.args.code c.args.mark c.in_ok-fresh.fresh c.in_ok-fresh.ensures c.if-not-fresh.false in
     let room : length rs < c.args.self.now.size = omega arith in
-    push_done rs _ _ _ _ _ _ _ c.push_reserved.ensures.items (omega arith) (omega arith) (search rules) room
+    push_done rs _ _ _ _ _ _ _ c.push_reserved.ensures.items (omega arith) (omega arith) none room
