@@ -6,6 +6,7 @@ ghost use Rattle.journal.specs.Held.{lookup, last_from};
 use blend::later_stamp;
 use layout::number_at;
 
+// Fields that a frame's request has too: a record asks no question, and a journal stands on no frames.
 #[derive(Clone, Copy, PartialEq, Eq, Debug)]
 pub(crate) enum Record {
     Put {

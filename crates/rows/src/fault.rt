@@ -7,7 +7,7 @@ use store::StoreFault;
 
 #[derive(Clone, Copy, PartialEq, Eq, Debug)]
 pub enum Fault {
-    // The fields of AtItem, named in the variant, which is matched together with its item.
+    // The fields of AtItem, named: as Store(AtItem) each match on it would take two values apart.
     Store { item: u8, fault: StoreFault },
     Writer,
     OrderOpen,

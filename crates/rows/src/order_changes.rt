@@ -39,7 +39,7 @@ impl OpenOrder {
         self.listed().get(at).map_or(0, |place| place.item)
     }
 
-    // The code at a place; 0 past the list.
+    // The code at a place; 0 past the list. As item, one line with another field.
     fn code(&self, at: usize) -> u64
         ensures { result ≡ slice_index (order_codes self.now) at }
     {

@@ -27,6 +27,7 @@ fn opened_places(items: &[u8]) -> [ReadPlace; 8]
 }
 
 impl OpenRead {
+    // Sets what the first ask of a place answered, where it is one of the eight, as keep_first says.
     fn set_first(&mut self, place: u8, version: (u32, u64, u64))
         ensures { place < 8 → read_in self.new ≡ first_asked (read_in self.old) place version }
     {
@@ -42,6 +43,7 @@ impl OpenRead {
         }
     }
 
+    // As set_first: a closure for the fields would be longer than the lines that differ.
     fn set_second(&mut self, place: u8, version: (u32, u64, u64))
         ensures { place < 8 → read_in self.new ≡ second_asked (read_in self.old) place version }
     {
@@ -120,7 +122,7 @@ impl ReadRow {
         }
     }
 
-    // Keeps the later of what a place has and what its second ask answered.
+    // Keeps the later of what a place has and what its second ask answered; as keep_first, of the eight places.
     pub fn keep_second(&mut self, place: u8, version: (u32, u64, u64))
         ensures { place < 8 → reading self.new ≡ second_in (reading self.old) place version }
     {

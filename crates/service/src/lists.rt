@@ -8,6 +8,7 @@ use blend::{fits_item, has_item};
 pub fn is_tangled(items: &[u8]) -> bool
     ensures { result ≡ bad_items items.now }
 {
+    // A loop: each item is looked for among those after it, and a recursion could overflow the stack.
     let mut rest = items;
     while let Some((item, others)) = rest.split_first() {
         if *item == 0 || has_item(others, *item) {
@@ -23,6 +24,7 @@ pub fn is_tangled(items: &[u8]) -> bool
 pub fn has_unfit(items: &[u8], codes: &[u64]) -> bool
     ensures { result ≡ unfit items.now codes.now }
 {
+    // A loop: with `any` over the zip the check leaves the answer open.
     for (item, code) in items.iter().zip(codes) {
         if !fits_item(*item, *code) {
             return true;

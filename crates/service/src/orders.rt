@@ -61,7 +61,8 @@ impl<S: Store, N: Naming> Service<S, N> {
         Ok(u8::from(fresh))
     }
 
-    // Commits the version of a place; answers 1 where the item's last stamp has risen.
+    // Commits the version of a place; answers 1 where the item's last stamp has risen. As prepare, but for the store's call and the row's:
+    // what both share are calls of one line.
     pub fn commit(&mut self, writer: u8, place: u8) -> Result<u8, Fault>
         ensures step { Step N.Naming.rule (meaning S.Store.view self.old) (by_writer writer (commit place)) (answer result) (meaning S.Store.view self.new) }
         ensures carries { About (item_at (order_of (meaning S.Store.view self.old) writer) place) result }

@@ -49,7 +49,8 @@ impl<S: Store, N: Naming> Service<S, N> {
         Ok(version.0)
     }
 
-    // Asks a place again for what its first asks want; answers the stamp that is then kept.
+    // Asks a place again for what its first asks want; answers the stamp that is then kept. As first_ask, but for the store's call and the
+    // row's: what both share are calls of one line.
     pub fn second_ask(&mut self, reader: u8, place: u8) -> Result<u32, Fault>
         ensures step { Step N.Naming.rule (meaning S.Store.view self.old) (by_reader reader (second_ask place)) (answer result) (meaning S.Store.view self.new) }
         ensures carries { About (read_item (read_of (meaning S.Store.view self.old) reader) place) result }

@@ -26,14 +26,14 @@ fn meaning<M: fmt::Display + Drop>(
     }
 }
 
-// What the frame of a request asks, or why it asks nothing.
+// What the frame of a request asks, or why it asks nothing. A frame is bytes and is read first: what is read has the Display.
 pub fn request_meaning(heap: Global, frame: &[u8]) -> Result<String, AllocError>
     ensures { Spells result (request_words (read_as requests frame.now)) }
 {
     meaning(heap, read_request(frame))
 }
 
-// What the frame of a reply says, or why it says nothing.
+// What the frame of a reply says, or why it says nothing; as request_meaning.
 pub fn reply_meaning(heap: Global, frame: &[u8]) -> Result<String, AllocError>
     ensures { Spells result (reply_words (read_as replies frame.now)) }
 {

@@ -44,6 +44,7 @@ impl Store for Table {
 
     ghost last_held = { Prim.search rules };
 
+    // What a journal's put shares with it are calls of one line.
     fn put(&mut self, item: u8, stamp: u32, code: u64, mark: u64) -> Result<bool, StoreFault> {
         check_version(item, stamp)?;
         let fresh = is_new(self.find(item, stamp), code, mark)?;

@@ -59,7 +59,7 @@ impl Word {
         }
     }
 
-    // The word that the text spells, if any.
+    // The word that the text spells, if any. A match, as spelling is: a search by the spellings would want a list of all words and a loop.
     pub fn read(text: &[u8]) -> Option<Word>
         ensures { result ≡ word_at text.now }
     {
