@@ -1,4 +1,4 @@
-// The lines of an input that say something, each with its number.
+// A line of an input with its number. Lines are read one at a time: nothing is kept of one while the next is read.
 use std::alloc::{AllocError, Global};
 use text::{Token, tokens};
 
@@ -8,35 +8,37 @@ pub struct Line<'a> {
     pub text: &'a str,
 }
 
-// The lines of a text but for those that begin with #.
-pub(super) fn lines_of(heap: Global, text: &str) -> Result<Vec<Line<'_>>, AllocError> {
-    text.split('\n')
-        .enumerate()
-        .filter(|(_, line)| !line.trim_start().starts_with('#'))
-        .map(|(index, line)| Line {
+impl<'a> Line<'a> {
+    // The line of a text at an index.
+    pub(super) fn numbered(at: (usize, &'a str)) -> Line<'a> {
+        let (index, text) = at;
+        Line {
             number: index.saturating_add(1),
-            text: line,
-        })
-        .collect(heap)
+            text,
+        }
+    }
+
+    // Whether there is more in the line than white space, and it does not begin with #.
+    pub(super) fn speaks(&self) -> bool {
+        let rest = self.text.trim_start();
+        !rest.is_empty() && !rest.starts_with('#')
+    }
+
+    // The line as tokens, unless it has none or begins with #.
+    pub(super) fn tokens(self, heap: Global) -> Result<Option<TokenLine>, AllocError> {
+        let tokens = tokens(heap, self.text.as_bytes())?;
+        if tokens.is_empty() || self.text.trim_start().starts_with('#') {
+            return Ok(None);
+        }
+        Ok(Some(TokenLine {
+            number: self.number,
+            tokens,
+        }))
+    }
 }
 
 #[derive(Drop)]
 pub struct TokenLine {
     pub number: usize,
     pub tokens: Vec<Token>,
-}
-
-// Those lines as tokens, but for the ones without any.
-pub(super) fn token_lines(heap: Global, text: &str) -> Result<Vec<TokenLine>, AllocError> {
-    let mut found = Vec::new(heap);
-    for line in lines_of(heap, text)? {
-        let tokens = tokens(heap, line.text.as_bytes())?;
-        if !tokens.is_empty() {
-            found.push(TokenLine {
-                number: line.number,
-                tokens,
-            })?;
-        }
-    }
-    Ok(found)
 }

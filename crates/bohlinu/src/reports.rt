@@ -3,55 +3,51 @@ use super::scripts::Script;
 use blend::{is_later, kind_of};
 use runs::{Answer, Call};
 use sheet::{Entry, EntryBody};
-use std::alloc::{AllocError, Global};
-use std::collections::{BTreeMap, BTreeSet};
 
-// The writers with an open order, and the items of each open read by its reader.
-#[derive(Drop)]
+// The writers with an open order, and the items of each open read, by the numbers of writers and readers.
+#[derive(Clone, Copy)]
 struct Open<'a> {
-    orders: BTreeSet<u8>,
-    reads: BTreeMap<u8, &'a [u8]>,
+    orders: [bool; 16],
+    reads: [Option<&'a [u8]>; 16],
+}
+
+fn set<T: Copy + Drop>(rows: &mut [T], at: u8, value: T) {
+    if let Some(row) = rows.get_mut(usize::from(at)) {
+        *row = value;
+    }
 }
 
 impl<'a> Open<'a> {
-    // The call was accepted.
-    fn accept(&mut self, call: &'a Call) -> Result<(), AllocError> {
+    fn none() -> Open<'a> {
+        Open {
+            orders: [false; 16],
+            reads: [None; 16],
+        }
+    }
+
+    // The next call: what it opened or ended, if it was accepted.
+    fn follow(&mut self, call: &'a Call, answer: &Answer) {
+        if matches!(answer, Answer::Refused(_)) {
+            return;
+        }
         match call {
-            Call::File { writer, .. } => {
-                self.orders.insert(*writer)?;
-            }
+            Call::File { writer, .. } => set(&mut self.orders, *writer, true),
             Call::Close { writer } | Call::Withdraw { writer } => {
-                self.orders.remove(writer);
+                set(&mut self.orders, *writer, false);
             }
             Call::Open { reader, items } => {
-                self.reads.insert(*reader, items.as_slice())?;
+                set(&mut self.reads, *reader, Some(items.as_slice()));
             }
-            Call::Release { reader } => {
-                self.reads.remove(reader);
-            }
+            Call::Release { reader } => set(&mut self.reads, *reader, None),
             _ => {}
         }
-        Ok(())
     }
 
-    // The item that a first ask or a take is about.
-    fn item(&self, call: &Call) -> Option<u8> {
-        match call {
-            Call::First { reader, place } | Call::Take { reader, place } => {
-                self.reads.get(reader)?.get(usize::from(*place)).copied()
-            }
-            _ => None,
-        }
+    // The item at a place of a read.
+    fn item(&self, reader: u8, place: u8) -> Option<u8> {
+        let items = (*self.reads.get(usize::from(reader))?)?;
+        items.get(usize::from(place)).copied()
     }
-}
-
-// A call of a script with its line, its answer, and the item that it was about, if it was a first ask or a take.
-#[derive(Clone, Copy)]
-struct Played<'a> {
-    line: usize,
-    call: &'a Call,
-    answer: Answer,
-    item: Option<u8>,
 }
 
 // A version that a read showed, 0 for no stamp.
@@ -97,48 +93,22 @@ fn print_mixed(rt: &HostRuntime, one: Shown, other: Shown) -> anyhow::Result<()>
     Ok(())
 }
 
-// The calls of a script as they were played, and what is open after them.
-#[derive(Drop)]
+// The calls of a script with their answers. Each report goes over them once more, so that nothing is kept of them beside the calls.
+#[derive(Clone, Copy)]
 struct History<'a> {
-    played: Vec<Played<'a>>,
-    open: Open<'a>,
+    script: &'a Script,
+    answers: &'a [Answer],
 }
 
-impl<'a> History<'a> {
-    fn new(
-        heap: Global,
-        script: &'a Script,
-        answers: &[Answer],
-    ) -> Result<History<'a>, AllocError> {
-        let mut played = Vec::new(heap);
-        let mut open = Open {
-            orders: BTreeSet::new(heap),
-            reads: BTreeMap::new(heap),
-        };
-        for ((call, line), answer) in script.calls.iter().zip(&script.lines).zip(answers) {
-            let item = open.item(call);
-            if !matches!(answer, Answer::Refused(_)) {
-                open.accept(call)?;
-            }
-            played.push(Played {
-                line: *line,
-                call,
-                answer: *answer,
-                item,
-            })?;
-        }
-        Ok(History { played, open })
-    }
-
+impl History<'_> {
     // The code that an order of a stamp was filed with for an item.
-    fn code_filed(&self, shown: Shown) -> Option<u64> {
-        let (items, codes) = self.played.iter().find_map(|played| {
-            match (played.call, played.answer) {
-                (Call::File { items, codes, .. }, Answer::Number(n)) if n == shown.stamp => {
-                    Some((items, codes))
-                }
-                _ => None,
+    fn code_filed(self, shown: Shown) -> Option<u64> {
+        let mut calls = self.script.calls.iter().zip(self.answers);
+        let (items, codes) = calls.find_map(|(call, answer)| match (call, answer) {
+            (Call::File { items, codes, .. }, Answer::Number(n)) if *n == shown.stamp => {
+                Some((items, codes))
             }
+            _ => None,
         })?;
         items
             .iter()
@@ -147,33 +117,32 @@ impl<'a> History<'a> {
             .map(|(_, code)| *code)
     }
 
-    fn print_lines(&self, rt: &HostRuntime) -> anyhow::Result<()> {
-        for played in &self.played {
-            let Played {
-                line,
-                call,
-                answer,
-                ..
-            } = *played;
+    fn print_lines(self, rt: &HostRuntime) -> anyhow::Result<()> {
+        let Script { calls, lines } = self.script;
+        for ((call, line), answer) in calls.iter().zip(lines).zip(self.answers) {
             println!(rt; "line {line}: {call}: {answer}")?;
         }
         Ok(())
     }
 
     // What each first ask showed, as a read of the item alone; two orders side by side are named.
-    fn print_firsts(&self, rt: &HostRuntime) -> anyhow::Result<()> {
+    fn print_firsts(self, rt: &HostRuntime) -> anyhow::Result<()> {
         println!(rt; "item by item, as first asked:")?;
+        let mut open = Open::none();
         let mut before: Option<(u8, Shown)> = None;
-        for played in &self.played {
-            if let (Call::First { reader, .. }, Answer::Number(stamp), Some(item)) = (
-                played.call,
-                played.answer,
-                played.item,
-            ) {
-                let shown = Shown { item, stamp };
+        for (call, answer) in self.script.calls.iter().zip(self.answers) {
+            open.follow(call, answer);
+            if let (Call::First { reader, place }, Answer::Number(stamp)) = (call, answer) {
+                let Some(item) = open.item(*reader, *place) else {
+                    continue;
+                };
+                let shown = Shown {
+                    item,
+                    stamp: *stamp,
+                };
                 shown.print(rt, self.code_filed(shown))?;
                 if let Some((last_reader, last)) = before {
-                    if last_reader == *reader && last.stamp != stamp {
+                    if last_reader == *reader && last.stamp != *stamp {
                         print_mixed(rt, shown, last)?;
                     }
                 }
@@ -184,32 +153,44 @@ impl<'a> History<'a> {
     }
 
     // What each take showed.
-    fn print_takes(&self, rt: &HostRuntime) -> anyhow::Result<()> {
+    fn print_takes(self, rt: &HostRuntime) -> anyhow::Result<()> {
         println!(rt; "together, as taken:")?;
-        for played in &self.played {
-            if let (Call::Take { .. }, Answer::Shown { stamp, code }, Some(item)) = (
-                played.call,
-                played.answer,
-                played.item,
-            ) {
-                let held = if stamp > 0 { Some(code) } else { None };
-                Shown { item, stamp }.print(rt, held)?;
+        let mut open = Open::none();
+        for (call, answer) in self.script.calls.iter().zip(self.answers) {
+            open.follow(call, answer);
+            if let (Call::Take { reader, place }, Answer::Shown { stamp, code }) = (call, answer) {
+                let Some(item) = open.item(*reader, *place) else {
+                    continue;
+                };
+                let held = if *stamp > 0 { Some(*code) } else { None };
+                let shown = Shown {
+                    item,
+                    stamp: *stamp,
+                };
+                shown.print(rt, held)?;
             }
         }
         Ok(())
     }
 
     // How many asks each release answered, and what is open at the end.
-    fn print_end(&self, rt: &HostRuntime) -> anyhow::Result<()> {
-        for played in &self.played {
-            if let (Call::Release { reader }, Answer::Number(asks)) = (played.call, played.answer) {
+    fn print_end(self, rt: &HostRuntime) -> anyhow::Result<()> {
+        let mut open = Open::none();
+        for (call, answer) in self.script.calls.iter().zip(self.answers) {
+            open.follow(call, answer);
+            if let (Call::Release { reader }, Answer::Number(asks)) = (call, answer) {
                 println!(rt; "reader {reader} made {asks} asks")?;
             }
         }
-        for writer in &self.open.orders {
+        for (writer, _) in open.orders.iter().enumerate().filter(|(_, open)| **open) {
             println!(rt; "still open: order of writer {writer}")?;
         }
-        for reader in self.open.reads.keys() {
+        for (reader, _) in open
+            .reads
+            .iter()
+            .enumerate()
+            .filter(|(_, read)| read.is_some())
+        {
             println!(rt; "still open: read of reader {reader}")?;
         }
         Ok(())
@@ -217,7 +198,7 @@ impl<'a> History<'a> {
 }
 
 pub(super) fn report(rt: &HostRuntime, script: &Script, answers: &[Answer]) -> anyhow::Result<()> {
-    let history = History::new(rt.alloc(), script, answers)?;
+    let history = History { script, answers };
     history.print_lines(rt)?;
     history.print_firsts(rt)?;
     history.print_takes(rt)?;

@@ -1,5 +1,5 @@
 // Plays a script of calls over a layout of stores and under a naming rule.
-use super::lines::token_lines;
+use super::lines::Line;
 use super::reports::report;
 use super::sites::{Errand, Layout};
 use super::words::UnknownWord;
@@ -62,7 +62,10 @@ fn read_script(rt: &HostRuntime, text: &str) -> anyhow::Result<Script> {
         calls: Vec::new(rt.alloc()),
         lines: Vec::new(rt.alloc()),
     };
-    for line in &token_lines(rt.alloc(), text)? {
+    for line in text.split('\n').enumerate().map(Line::numbered) {
+        let Some(line) = line.tokens(rt.alloc())? else {
+            continue;
+        };
         match read_call(rt.alloc(), line.tokens.as_slice()) {
             Ok(call) => script.keep(call, line.number)?,
             Err(ScriptError::Fault(fault)) => rt.println(FaultOnLine {

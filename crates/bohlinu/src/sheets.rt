@@ -1,5 +1,5 @@
 // Checks a sheet line by line, prints what each line comes to, and sums up.
-use super::lines::{TokenLine, token_lines};
+use super::lines::{Line, TokenLine};
 use sheet::{LineFault, RefusedLine, Sheet, read_heading, stamp_text};
 
 pub const EXAMPLE: &str = "# a blend order of console 1: volume, line-up, tank card
@@ -62,11 +62,16 @@ pub(super) fn check(rt: &HostRuntime, name: &str, text: &str) -> anyhow::Result<
         sheet: Sheet::new(),
         refused: 0,
     };
-    let lines = token_lines(rt.alloc(), text)?;
-    if let Some((heading, entries)) = lines.split_first() {
-        progress.heading(rt, heading)?;
-        for line in entries {
-            progress.entry(rt, line)?;
+    let mut headed = false;
+    for line in text.split('\n').enumerate().map(Line::numbered) {
+        let Some(line) = line.tokens(rt.alloc())? else {
+            continue;
+        };
+        if headed {
+            progress.entry(rt, &line)?;
+        } else {
+            progress.heading(rt, &line)?;
+            headed = true;
         }
     }
     progress.summary(rt)

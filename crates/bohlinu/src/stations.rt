@@ -1,8 +1,8 @@
 // Serves frames to a station, prints what each asked and what was replied, and sums up what the station holds.
-use super::lines::{Line, lines_of};
+use super::lines::Line;
 use super::sites::{Errand, Layout};
 use frames::{Reply, read_reply, reply_frame};
-use station::{HexFault, hex_bytes, hex_text, reply_meaning, request_meaning};
+use station::{HexError, hex_bytes, hex_text, reply_meaning, request_meaning};
 use store::Store;
 
 pub const EXAMPLE: &str =
@@ -70,11 +70,12 @@ impl<S: Store + Drop> Station<'_, S> {
         let rt = self.rt;
         match hex_bytes(rt.alloc(), line.text.as_bytes()) {
             Ok(frame) => self.answer(frame.as_slice()),
-            Err(fault @ HexFault::OutOfMemory) => Err(fault.into()),
-            Err(fault) => {
+            Err(HexError::Memory(error)) => Err(error.into()),
+            Err(HexError::Fault(fault)) => {
                 self.bad = self.bad.saturating_add(1);
                 let number = line.number;
-                println!(rt; "line {number}: no frame: {fault}")?;
+                let reason = fault.reason();
+                println!(rt; "line {number}: no frame: {reason}")?;
                 Ok(())
             }
         }
@@ -115,8 +116,8 @@ impl Errand for ServeErrand<'_> {
             refused: 0,
             bad: 0,
         };
-        for line in lines_of(rt.alloc(), text)? {
-            if !line.text.trim_start().is_empty() {
+        for line in text.split('\n').enumerate().map(Line::numbered) {
+            if line.speaks() {
                 station.take(line)?;
             }
         }

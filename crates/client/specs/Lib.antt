@@ -1,2 +1,3 @@
 pub mod Publish
 pub mod Deep
+pub mod Words

@@ -2,15 +2,18 @@
 
 #![tactic(auto)]
 
-ghost use Rattle.std.specs.Prelude.{◌≡◌, min, IfOk, Ok, MatchResult};
+ghost use Rattle.std.specs.Prelude.{◌≡◌, min, IfOk, Ok, Some, MatchResult};
 ghost use Rattle.store.specs.Room.{Fresh};
 ghost use Rattle.client.specs.Publish.{PublishOutcome, TakesTwo};
 ghost use Rattle.client.specs.Deep.{deep_view};
+ghost use Rattle.client.specs.Words.{deep_reason};
 ghost use Rattle.client.specs.declared.DeepFault.TheVariants.{NoMemory, Refused};
 
 use partition::Partition;
 use quota::Quota;
 use std::alloc::{AllocError, Global};
+use std::error::Error;
+use std::fmt;
 use store::{Store, StoreFault};
 use table::Table;
 
@@ -57,6 +60,19 @@ pub enum DeepFault {
     NoMemory,
     Refused(StoreFault),
 }
+
+impl fmt::Display for DeepFault {
+    ghost output = { λ fault. Some (deep_reason fault) };
+
+    fn fmt<W: fmt::Write>(&self, f: &mut fmt::Formatter<W>) -> fmt::Result {
+        match *self {
+            Self::NoMemory => f.write_str("memory allocation failed"),
+            Self::Refused(why) => f.write_str(why.reason()),
+        }
+    }
+}
+
+impl Error for DeepFault {}
 
 impl From<AllocError> for DeepFault {
     ghost from_gives = { λ e fault. fault ≡ NoMemory };

@@ -3,12 +3,12 @@ use Rattle.std.proofs.Common.{◌≡◌, ℕ, zero, suc, ◌<◌, ◌≤◌, min
 use mathlib.Core.Path.{fun_ext}
 use mathlib.Core.List.{map}
 use Rattle.std.specs.Option.{option_map}
-use Rattle.std.proofs.lemmas.List.{take-map, map-set, set-get_or, get_or-map, get_or-take, get_or-set_same, get_or-set_other, get_or_past, ext_get_or, length-take}
+use Rattle.std.proofs.lemmas.List.{take-map, map-set, set-get_or, get_or-map, get_or-take, get_or-set_same, get_or-set_other, get_or_past, ext_get_or, length-take, take_all}
 use Rattle.std.proofs.lemmas.Bool.{cases_eq, cases_lt}
 use Rattle.store.specs.Meaning.{Version, blank, later_version}
 use Rattle.protocol.specs.State as protocol
 use Rattle.protocol.specs.Naming.{padded}
-use Rattle.protocol.specs.Step.{filed_row, with_order, prepared_at, committed_at, fresh_read, first_asked, second_asked}
+use Rattle.protocol.specs.Step.{with_order, prepared_at, committed_at, fresh_read, first_asked, second_asked}
 use Rattle.protocol.proofs.Basics.{upd_set}
 use Rattle.rows.specs.declared.order.OrderPlace.{OrderPlace}
 use Rattle.rows.specs.declared.order.OpenOrder.{OpenOrder}
@@ -17,7 +17,7 @@ use Rattle.rows.specs.declared.read.ReadPlace.{ReadPlace}
 use Rattle.rows.specs.declared.read.OpenRead.{OpenRead}
 use Rattle.rows.specs.Places.{in_eight, filed_place, opened_place}
 use Rattle.rows.specs.OrderCalls.{prepared_in, committed_in}
-use Rattle.rows.specs.Rows.{no_order_place, no_read_place, order_place, order_in, row_of, read_place, read_in}
+use Rattle.rows.specs.Rows.{no_order_place, no_read_place, order_place, order_in, order_laid, row_of, read_place, read_in}
 use Rattle.rows.proofs.Below.{length_listed}
 
 -- ── a list of places ──
@@ -51,18 +51,34 @@ padded_tabled zero l = refl
 padded_tabled (suc n) [] = ap (λ (z : List ℕ). 0 ∷ z) (padded_tabled n [])
 padded_tabled (suc n) (y ∷ l) = ap (λ (z : List ℕ). y ∷ z) (padded_tabled n l)
 
+length_padded : (n : ℕ) (l : List ℕ) → length (padded n l) ≡ n
+length_padded zero l = refl
+length_padded (suc n) [] = ap suc (length_padded n [])
+length_padded (suc n) (y ∷ l) = ap suc (length_padded n l)
+
+at_padded : (n : ℕ) (l : List ℕ) (k : ℕ) → k < n → get_or (padded n l) k 0 ≡ get_or l k 0
+at_padded zero l k u = absurd (omega arith)
+at_padded (suc n) [] zero u = refl
+at_padded (suc n) [] (suc k) u = at_padded n [] k (omega arith)
+at_padded (suc n) (y ∷ l) zero u = refl
+at_padded (suc n) (y ∷ l) (suc k) u = at_padded n l k (omega arith)
+
+padded_whole : (l : List ℕ) → padded (length l) l ≡ l
+padded_whole [] = refl
+padded_whole (y ∷ l) = ap (λ (z : List ℕ). y ∷ z) (padded_whole l)
+
 pub padded_eight : (l : List ℕ) → in_eight (λ k. get_or l k 0) ≡ padded 8 l
 padded_eight l = padded_tabled 8 l
 
 -- places that were laid out from a list
 pub listed_laid : {A : Type 0} (f : A → ℕ) (d : A) (l : List A) (xs : List ℕ) (n : ℕ) → n ≡ length xs → n ≤ 8 → length l ≡ 8 →
-    ((k : ℕ) → k < 8 → f (get_or l k d) ≡ get_or xs k 0) → map f (take n l) ≡ xs
+    ((k : ℕ) → k < n → f (get_or l k d) ≡ get_or xs k 0) → map f (take n l) ≡ xs
 listed_laid f d l xs n e few long at =
     let m = length_listed f n l few long in
     let t = length-take n l in
     ext_get_or 0 (map f (take n l)) xs (m ∙ e) (λ k u.
     let v : k < n = omega (arith, m) in
-    get_or-map f (take n l) k d 0 (omega (arith, v, t, few, long)) ∙ ap f (get_or-take n l k d v) ∙ at k (omega (arith, v, few)))
+    get_or-map f (take n l) k d 0 (omega (arith, v, t, few, long)) ∙ ap f (get_or-take n l k d v) ∙ at k v)
 
 pub read_all : {A B : Type 0} (l : List A) (d : A) (f : A → B) (b : B) → length l ≡ 8 → f d ≡ b → ((k : ℕ) → k < 8 → f (get_or l k d) ≡ b) →
     ◌≡◌ {A = ℕ → B} (λ k. f (get_or l k d)) (λ k. b)
@@ -127,27 +143,46 @@ module _ (w : ℕ) (row : OrderRow) (x : OpenOrder) (p : ℕ) (low : p < length 
       let y : OrderPlace = record { item = old.item; code = old.code; prepared = old.prepared; committed = true } in
       order_changed w row x (record { places = set x.places p y; count = x.count; stamp = x.stamp; few = few }) (λ z. committed_at z p) is (order_committed few)
 
--- a row with a new order
-pub order_filed : (w q t n : ℕ) (l : List OrderPlace) (items codes : List ℕ) (low : n ≤ 8) → n ≡ min (length items) 8 →
-    length items ≤ 8 → length codes ≡ length items → l ≡ in_eight (filed_place items codes) →
-    row_of w (record { sequence = q; current = Some (record { places = l; count = n; stamp = t; few = low }) }) ≡ filed_row w q items codes t
-order_filed w q t n l items codes low m few same e =
+-- a new order
+pub laid_order : (w t n : ℕ) (l : List OrderPlace) (items codes : List ℕ) (low : n ≤ 8) → n ≡ min (length items) 8 →
+    l ≡ in_eight (filed_place items codes) → order_in w (record { places = l; count = n; stamp = t; few = low }) ≡ order_laid w t items codes
+laid_order w t n l items codes low m e =
     let long : length l ≡ 8 = ap length e in
-    let at : (k : ℕ) → k < 8 → get_or l k no_order_place ≡ filed_place items codes k =
+    let size = length-take 8 items in
+    let s : n ≡ length (take 8 items) = omega (arith, m, size) in
+    let at : (k : ℕ) → k < n → get_or l k no_order_place ≡ filed_place items codes k =
+    λ k u. ap (λ (z : List OrderPlace). get_or z k no_order_place) e ∙ at_tabled 8 (filed_place items codes) no_order_place k (omega (arith, u, low))
+    in
+    let all : (k : ℕ) → k < 8 → get_or l k no_order_place ≡ filed_place items codes k =
     λ k u. ap (λ (z : List OrderPlace). get_or z k no_order_place) e ∙ at_tabled 8 (filed_place items codes) no_order_place k u
     in
     λ i. record {
-      sequence = q;
-      current = Some (record {
-        order = record {
-          writer = w;
-          items = listed_laid (λ z. z.item) no_order_place l items n (omega (arith, m, few)) low long (λ k u. ap (λ (z : OrderPlace). z.item) (at k u)) i;
-          codes = listed_laid (λ z. z.code) no_order_place l codes n (omega (arith, m, few, same)) low long (λ k u. ap (λ (z : OrderPlace). z.code) (at k u)) i;
-          stamp = t;
-        };
-        prepared = read_all l no_order_place (λ z. z.prepared) false long refl (λ k u. ap (λ (z : OrderPlace). z.prepared) (at k u)) i;
-        committed = read_all l no_order_place (λ z. z.committed) false long refl (λ k u. ap (λ (z : OrderPlace). z.committed) (at k u)) i;
-      });
+      order = record {
+        writer = w;
+        items = listed_laid (λ z. z.item) no_order_place l (take 8 items) n s low long
+            (λ k u. ap (λ (z : OrderPlace). z.item) (at k u) ∙ sym (get_or-take 8 items k 0 (omega (arith, u, low)))) i;
+        codes = listed_laid (λ z. z.code) no_order_place l (padded (length (take 8 items)) codes) n (s ∙ sym (length_padded (length (take 8 items)) codes)) low long
+            (λ k u. ap (λ (z : OrderPlace). z.code) (at k u) ∙ sym (at_padded (length (take 8 items)) codes k (omega (arith, u, s)))) i;
+        stamp = t;
+      };
+      prepared = read_all l no_order_place (λ z. z.prepared) false long refl (λ k u. ap (λ (z : OrderPlace). z.prepared) (all k u)) i;
+      committed = read_all l no_order_place (λ z. z.committed) false long refl (λ k u. ap (λ (z : OrderPlace). z.committed) (all k u)) i;
+    }
+
+-- of at most eight items, each with a code, the order is of these lists
+pub laid_whole : (w t : ℕ) (items codes : List ℕ) → length items ≤ 8 → length codes ≡ length items →
+    order_laid w t items codes ≡ record {
+      order = record { writer = w; items = items; codes = codes; stamp = t };
+      prepared = λ k. false;
+      committed = λ k. false;
+    }
+laid_whole w t items codes few same =
+    let whole : take 8 items ≡ items = take_all 8 items few in
+    let coded : padded (length (take 8 items)) codes ≡ codes = ap (λ (z : List ℕ). padded (length z) codes) whole ∙ ap (λ (n : ℕ). padded n codes) (sym same) ∙ padded_whole codes in
+    λ i. record {
+      order = record { writer = w; items = whole i; codes = coded i; stamp = t };
+      prepared = λ k. false;
+      committed = λ k. false;
     }
 
 -- ── reads ──
@@ -184,15 +219,17 @@ module _ (x : OpenRead) (p : ℕ) (low : p < length x.places) (v : Version) (few
       }
 
 -- a new read
-pub read_opened : (n : ℕ) (l : List ReadPlace) (items : List ℕ) (low : n ≤ 8) → n ≡ min (length items) 8 → length items ≤ 8 →
-    l ≡ in_eight (opened_place items) → read_in (record { places = l; count = n; few = low }) ≡ fresh_read items
-read_opened n l items low m few e =
+pub read_opened : (n : ℕ) (l : List ReadPlace) (items : List ℕ) (low : n ≤ 8) → n ≡ min (length items) 8 →
+    l ≡ in_eight (opened_place items) → read_in (record { places = l; count = n; few = low }) ≡ fresh_read (take 8 items)
+read_opened n l items low m e =
     let long : length l ≡ 8 = ap length e in
+    let size = length-take 8 items in
     let at : (k : ℕ) → k < 8 → get_or l k no_read_place ≡ opened_place items k =
     λ k u. ap (λ (z : List ReadPlace). get_or z k no_read_place) e ∙ at_tabled 8 (opened_place items) no_read_place k u
     in
     λ i. record {
-      items = listed_laid (λ z. z.item) no_read_place l items n (omega (arith, m, few)) low long (λ k u. ap (λ (z : ReadPlace). z.item) (at k u)) i;
+      items = listed_laid (λ z. z.item) no_read_place l (take 8 items) n (omega (arith, m, size)) low long
+          (λ k u. let v : k < 8 = omega (arith, u, low) in ap (λ (z : ReadPlace). z.item) (at k v) ∙ sym (get_or-take 8 items k 0 v)) i;
       first = read_all l no_read_place (λ z. z.first) None long refl (λ k u. ap (λ (z : ReadPlace). z.first) (at k u)) i;
       again = read_all l no_read_place (λ z. z.again) false long refl (λ k u. ap (λ (z : ReadPlace). z.again) (at k u)) i;
       kept = read_all l no_read_place (λ z. z.kept) blank long refl (λ k u. ap (λ (z : ReadPlace). z.kept) (at k u)) i;

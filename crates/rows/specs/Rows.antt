@@ -1,8 +1,9 @@
 -- What the rows mean, as rows of the protocol's state.
-use Rattle.std.specs.Prelude.{ℕ, false, List, map, take, None, Option, slice_index_or}
+use Rattle.std.specs.Prelude.{ℕ, false, List, map, take, length, None, Option, slice_index_or}
 use Rattle.std.specs.Option.{option_map}
 use Rattle.store.specs.Meaning.{blank}
 use Rattle.protocol.specs.State as protocol
+use Rattle.protocol.specs.Naming.{padded}
 use Rattle.rows.specs.declared.order.OrderPlace.{OrderPlace}
 use Rattle.rows.specs.declared.order.OpenOrder.{OpenOrder}
 use Rattle.rows.specs.declared.order.OrderRow.{OrderRow}
@@ -37,6 +38,19 @@ order_in w x = record {
   };
   prepared = λ k. (order_place x k).prepared;
   committed = λ k. (order_place x k).committed;
+}
+
+-- an order as it is made of the first eight of a list of items, each with its code, 0 past the codes
+abbrev pub order_laid : ℕ → ℕ → List ℕ → List ℕ → protocol.OpenOrder
+order_laid w t items codes = record {
+  order = record {
+    writer = w;
+    items = take 8 items;
+    codes = padded (length (take 8 items)) codes;
+    stamp = t;
+  };
+  prepared = λ k. false;
+  committed = λ k. false;
 }
 
 -- the row of the writer w

@@ -4,7 +4,7 @@ ghost use Rattle.protocol.specs.Asks.{progress, stamp_in, mark_in, wanted as wan
 ghost use Rattle.protocol.specs.Refusals.{read_item};
 ghost use Rattle.rows.specs.Rows.{read_in};
 
-use super::read::OpenRead;
+use super::read::{OpenRead, ReadPlace};
 use blend::is_later;
 use naming::Naming;
 use std::array;
@@ -42,8 +42,16 @@ impl OpenRead {
         ensures stamp { result.0 ≡ stamp_in ((read_in self.now).first place) }
         ensures mark { result.1 ≡ mark_in ((read_in self.now).first place) }
     {
-        self.first(place)
-            .map_or((0, 0), |(stamp, _, mark)| (stamp, mark))
+        // A match on the place as it stands, since a read asks this for each pair of places: only stamp and mark are copied.
+        match self.places.get(usize::from(place)) {
+            Some(
+                ReadPlace {
+                    first: Some((stamp, _, mark)),
+                    ..
+                },
+            ) => (*stamp, *mark),
+            _ => (0, 0),
+        }
     }
 
     // The stamp that the place p wants from the place q; 0 where it wants none.

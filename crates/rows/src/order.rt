@@ -1,11 +1,12 @@
 // A writer's row: its last sequence and its open order.
 ghost use Rattle.std.specs.Prelude.{◌≡◌, ◌≤◌, take};
 
-// One place of an order: its item with its code, and whether it is prepared and committed.
+// One place of an order: its item with its code, and whether it is prepared and committed. The widest field stands first, since fields lie
+// in the order of the source.
 #[derive(Clone, Copy, PartialEq, Eq, Debug)]
 pub struct OrderPlace {
-    pub item: u8,
     pub code: u64,
+    pub item: u8,
     pub prepared: bool,
     pub committed: bool,
 }

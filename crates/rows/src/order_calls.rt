@@ -65,7 +65,7 @@ impl OrderRow {
         ensures value { (w : ℕ) → result ≡ items_in (row_of w self.now).current }
         ensures few { result ≤ 8 }
     {
-        self.current.map_or(0, |order| order.count)
+        self.current.as_ref().map_or(0, |order| order.count)
     }
 
     // Whether the row admits the call, or why it refuses it.

@@ -3,7 +3,7 @@ ghost use Rattle.std.specs.Prelude.{◌≡◌, ℕ, ◌<◌, ◌≤◌, length, 
 ghost use Rattle.protocol.specs.Step.{filed_row, with_order};
 ghost use Rattle.protocol.specs.Naming.{padded};
 ghost use Rattle.rows.specs.Places.{in_eight, filed_place};
-ghost use Rattle.rows.specs.Rows.{order_items, order_codes, order_in, row_of};
+ghost use Rattle.rows.specs.Rows.{order_items, order_codes, order_in, order_laid, row_of};
 ghost use Rattle.rows.specs.OrderCalls.{placed_at, prepared_in, committed_in};
 
 use super::order::{OpenOrder, OrderPlace, OrderRow};
@@ -32,6 +32,17 @@ fn filed_places(items: &[u8], codes: &[u64]) -> [OrderPlace; 8]
 }
 
 impl OpenOrder {
+    // An order of the first eight of a list of items, each with its code, of which no place is prepared; code 0 past the codes.
+    pub fn new(stamp: u32, items: &[u8], codes: &[u64]) -> OpenOrder
+        ensures { (w : ℕ) → order_in w result ≡ order_laid w stamp items.now codes.now }
+    {
+        OpenOrder {
+            places: filed_places(items, codes),
+            count: count_of(items),
+            stamp,
+        }
+    }
+
     // The item at a place; 0 past the list.
     fn item(&self, at: usize) -> u8
         ensures { result ≡ slice_index (order_items self.now) at }
@@ -81,11 +92,7 @@ impl OrderRow {
     pub fn file(&mut self, sequence: u32, stamp: u32, items: &[u8], codes: &[u64])
         ensures { length items.now ≤ 8 → length codes.now ≡ length items.now → (w : ℕ) → row_of w self.new ≡ filed_row w sequence items.now codes.now stamp }
     {
-        let order = OpenOrder {
-            places: filed_places(items, codes),
-            count: count_of(items),
-            stamp,
-        };
+        let order = OpenOrder::new(stamp, items, codes);
         self.sequence = sequence;
         self.current = Some(order);
     }

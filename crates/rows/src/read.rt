@@ -2,13 +2,13 @@
 ghost use Rattle.std.specs.Prelude.{◌≡◌, ◌≤◌, take};
 
 // One place of a read: its item, what its first ask answered, whether its second ask was made, and the version kept.
-// `again` beside `kept` is no Option: a place keeps a version before its second ask too.
+// `again` beside `kept` is no Option: a place keeps a version before its second ask too. Wide fields stand first, as in an order's place.
 #[derive(Clone, Copy, PartialEq, Eq, Debug)]
 pub struct ReadPlace {
-    pub item: u8,
     pub first: Option<(u32, u64, u64)>,
-    pub again: bool,
     pub kept: (u32, u64, u64),
+    pub item: u8,
+    pub again: bool,
 }
 
 // The read lists the first `count` of its places, as an order does.

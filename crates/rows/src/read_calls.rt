@@ -24,7 +24,7 @@ impl ReadRow {
         ensures value { result ≡ length (the_read (reading self.now)).items }
         ensures few { result ≤ 8 }
     {
-        self.current.map_or(0, |read| read.count)
+        self.current.as_ref().map_or(0, |read| read.count)
     }
 
     // Whether the row admits the call, or why it refuses it.
@@ -33,7 +33,7 @@ impl ReadRow {
         ensures few { length (the_read (reading self.now)).items ≤ 8 }
         ensures own { (i : ℕ) → About i result }
     {
-        match (self.current, call) {
+        match (&self.current, call) {
             (None, _) => Err(Fault::NoRead),
             (Some(read), ReadCall::First(place)) => read.admit_first(place),
             (Some(read), ReadCall::Second(place)) => read.admit_second::<N>(place),

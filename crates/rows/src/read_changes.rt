@@ -1,5 +1,5 @@
 // How the calls of its reader change a row.
-ghost use Rattle.std.specs.Prelude.{◌≡◌, ◌<◌, ◌≤◌, length, Some, None};
+ghost use Rattle.std.specs.Prelude.{◌≡◌, ◌<◌, ◌≤◌, length, take, Some, None};
 ghost use Rattle.protocol.specs.Step.{fresh_read, first_asked, second_asked};
 ghost use Rattle.protocol.specs.Asks.{progress, eight, wanted as wanted_stamp, asks_made};
 ghost use Rattle.protocol.specs.State.{the_read};
@@ -27,6 +27,16 @@ fn opened_places(items: &[u8]) -> [ReadPlace; 8]
 }
 
 impl OpenRead {
+    // A read of the first eight of a list of items, of which nothing was asked.
+    pub fn new(items: &[u8]) -> OpenRead
+        ensures { read_in result ≡ fresh_read (take 8 items.now) }
+    {
+        OpenRead {
+            places: opened_places(items),
+            count: count_of(items),
+        }
+    }
+
     // Sets what the first ask of a place answered, where it is one of the eight, as keep_first says.
     fn set_first(&mut self, place: u8, version: (u32, u64, u64))
         ensures { place < 8 → read_in self.new ≡ first_asked (read_in self.old) place version }
@@ -74,10 +84,7 @@ impl ReadRow {
     pub fn open(&mut self, items: &[u8])
         ensures { length items.now ≤ 8 → reading self.new ≡ Some (fresh_read items.now) }
     {
-        let read = OpenRead {
-            places: opened_places(items),
-            count: count_of(items),
-        };
+        let read = OpenRead::new(items);
         self.current = Some(read);
     }
 
@@ -85,7 +92,7 @@ impl ReadRow {
     pub fn item(&self, place: u8) -> u8
         ensures { result ≡ read_item (the_read (reading self.now)) place }
     {
-        self.current.map_or(0, |read| read.item(place))
+        self.current.as_ref().map_or(0, |read| read.item(place))
     }
 
     // The stamps that a place wants from each place; all 0 without a read.
@@ -103,14 +110,16 @@ impl ReadRow {
     pub fn asks(&self) -> u8
         ensures { result ≡ asks_made (progress (the_read (reading self.now))) }
     {
-        self.current.map_or(0, |read| read.asks())
+        self.current.as_ref().map_or(0, |read| read.asks())
     }
 
     // The version kept at a place.
     pub fn kept(&self, place: u8) -> (u32, u64, u64)
         ensures { result ≡ (the_read (reading self.now)).kept place }
     {
-        self.current.map_or((0, 0, 0), |read| read.kept(place))
+        self.current
+            .as_ref()
+            .map_or((0, 0, 0), |read| read.kept(place))
     }
 
     // Keeps what the first ask of a place answered, where it is one of the eight: a type for a place would ask more of callers.

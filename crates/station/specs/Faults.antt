@@ -1,9 +1,19 @@
 -- The text of each reason.
-use Rattle.std.specs.Prelude.{ℕ, List, codes}
+use Rattle.std.specs.Prelude.{ℕ, List, Some, None, Option, ⊤, codes}
 use Rattle.station.specs.declared.fault.HexFault.{HexFault}
-use Rattle.station.specs.declared.fault.HexFault.TheVariants.{Digit, Odd, OutOfMemory}
+use Rattle.station.specs.declared.fault.HexFault.TheVariants.{Digit, Odd}
+use Rattle.station.specs.declared.fault.HexError.{HexError}
+use Rattle.station.specs.declared.fault.HexError.TheVariants.{Fault, Memory}
 
 abbrev pub hex_reason : HexFault → List ℕ
 hex_reason Digit = codes "a character is no hexadecimal digit"
 hex_reason Odd = codes "a byte has one digit"
-hex_reason OutOfMemory = codes "memory allocation failed"
+
+abbrev pub IsMemory : HexError → Type 0
+IsMemory (Fault f) = ⊥
+IsMemory (Memory e) = ⊤
+
+-- of want of memory std has the words
+abbrev pub error_words : HexError → Option (List ℕ)
+error_words (Fault f) = Some (hex_reason f)
+error_words (Memory e) = None

@@ -1,10 +1,12 @@
 -- Bytes as hexadecimal digits.
-use Rattle.std.specs.Prelude.{◌≡◌, ℕ, ◌+◌, ◌-◌, ◌*◌, ◌/◌, ◌%◌, ◌<◌, cond, ◌&&◌, List, [], ◌∷◌, ◌++◌, Some, None, Ok, Err, vec_items, Option, Result, Vec, nat_le}
+use Rattle.std.specs.Prelude.{◌≡◌, ℕ, ◌+◌, ◌-◌, ◌*◌, ◌/◌, ◌%◌, ◌<◌, cond, ◌&&◌, List, [], ◌∷◌, ◌++◌, Some, None, Ok, Err, vec_items, Option, Result, Vec, nat_le, ⊤}
 use Rattle.std.specs.Char.{digit_char}
 use Rattle.std.specs.List.{flat_map}
 use Rattle.text.specs.Tokens.{is_blank}
 use Rattle.station.specs.declared.fault.HexFault.{HexFault}
-use Rattle.station.specs.declared.fault.HexFault.TheVariants.{Digit, Odd, OutOfMemory}
+use Rattle.station.specs.declared.fault.HexFault.TheVariants.{Digit, Odd}
+use Rattle.station.specs.declared.fault.HexError.{HexError}
+use Rattle.station.specs.declared.fault.HexError.TheVariants.{Fault, Memory}
 
 -- 0 to 9, a to f, A to F
 abbrev pub hex_value : ℕ → Option ℕ
@@ -49,17 +51,17 @@ hex_after (Ok x) (c ∷ cs) = hex_after (hex_step x c) cs
 abbrev pub hex_of : List ℕ → Result (List ℕ) HexFault
 hex_of line = hex_after (Ok ([], None)) line
 
--- unless memory ran out, what one more character came to: the bytes after it, and the first digit of the next
-abbrev pub Steps : Result State HexFault → List ℕ → Result (Option ℕ) HexFault → Type 0
+-- what one more character came to: the bytes after it, and the first digit of the next; of want of memory nothing is said
+abbrev pub Steps : Result State HexFault → List ℕ → Result (Option ℕ) HexError → Type 0
 Steps right xs (Ok half) = Ok (xs, half) ≡ right
-Steps right xs (Err OutOfMemory) = Unit {0}
-Steps right xs (Err f) = Err f ≡ right
+Steps right xs (Err (Fault f)) = Err f ≡ right
+Steps right xs (Err (Memory e)) = ⊤
 
--- unless memory ran out, what was read is right
-abbrev pub Reads : {Z : Type 0} → Result (List ℕ) HexFault → Result (Vec ℕ Z) HexFault → Type 0
+-- what was read is right, or the fault; of want of memory nothing is said
+abbrev pub Reads : {Z : Type 0} → Result (List ℕ) HexFault → Result (Vec ℕ Z) HexError → Type 0
 Reads right (Ok v) = Ok (vec_items v) ≡ right
-Reads right (Err OutOfMemory) = Unit {0}
-Reads right (Err f) = Err f ≡ right
+Reads right (Err (Fault f)) = Err f ≡ right
+Reads right (Err (Memory e)) = ⊤
 
 -- a blank and two digits
 abbrev pub byte_hex : ℕ → List ℕ

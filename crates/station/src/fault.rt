@@ -1,9 +1,9 @@
-// Why a line gives no frame.
+// Why a line gives no frame, and why none was read.
 ghost use Rattle.std.specs.Prelude.{◌≡◌, Some};
-ghost use Rattle.station.specs.Faults.{hex_reason};
-ghost use Rattle.station.specs.declared.fault.HexFault.TheVariants as fault;
+ghost use Rattle.station.specs.Faults.{hex_reason, IsMemory, error_words};
+ghost use Rattle.station.specs.declared.fault.HexError.TheVariants as error;
 
-use std::alloc::AllocFailed;
+use std::alloc::{AllocError, AllocFailed};
 use std::error::Error;
 use std::fmt;
 
@@ -11,7 +11,6 @@ use std::fmt;
 pub enum HexFault {
     Digit,
     Odd,
-    OutOfMemory,
 }
 
 impl HexFault {
@@ -21,7 +20,6 @@ impl HexFault {
         match self {
             HexFault::Digit => "a character is no hexadecimal digit",
             HexFault::Odd => "a byte has one digit",
-            HexFault::OutOfMemory => "memory allocation failed",
         }
     }
 }
@@ -36,10 +34,38 @@ impl fmt::Display for HexFault {
 
 impl Error for HexFault {}
 
-impl<T: Drop> From<AllocFailed<T>> for HexFault {
-    ghost from_gives = { λ _ e. e ≡ fault.OutOfMemory };
+// Why no bytes were read: the line's fault, or want of memory.
+#[derive(Clone, Copy, PartialEq, Eq, Debug)]
+pub enum HexError {
+    Fault(HexFault),
+    Memory(AllocError),
+}
 
-    fn from(_failed: AllocFailed<T>) -> HexFault {
-        HexFault::OutOfMemory
+impl fmt::Display for HexError {
+    ghost output = { error_words };
+
+    fn fmt<W: fmt::Write>(&self, f: &mut fmt::Formatter<W>) -> fmt::Result {
+        match self {
+            HexError::Fault(why) => write!(f, "{why}"),
+            HexError::Memory(why) => write!(f, "{why}"),
+        }
+    }
+}
+
+impl Error for HexError {}
+
+impl From<HexFault> for HexError {
+    ghost from_gives = { λ e r. r ≡ error.Fault e };
+
+    fn from(fault: HexFault) -> HexError {
+        HexError::Fault(fault)
+    }
+}
+
+impl<T: Drop> From<AllocFailed<T>> for HexError {
+    ghost from_gives = { λ _ r. IsMemory r };
+
+    fn from(failed: AllocFailed<T>) -> HexError {
+        HexError::Memory(AllocError::from(failed))
     }
 }

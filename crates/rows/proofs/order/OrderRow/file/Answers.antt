@@ -1,8 +1,9 @@
-use Rattle.std.proofs.Common.{arith}
-use Rattle.rows.proofs.Changed.{order_filed}
+use Rattle.std.proofs.Common.{Some, ap, ◌∙◌}
+use Rattle.protocol.specs.State.{OpenOrder}
+use Rattle.rows.proofs.Changed.{laid_whole}
 use Rattle.rows.proofs.order.OrderRow.file.Goals as goal
 
 pub returns : goal.returns
 returns c = λ few same w.
-    order_filed w c.args.sequence c.args.stamp c.count_of.result c.filed_places.result c.args.items.now c.args.codes.now
-    (omega (arith, c.count_of.ensures)) c.count_of.ensures few same c.filed_places.ensures
+    ap (λ (x : OpenOrder). record { sequence = c.args.sequence; current = Some x })
+    (c.new-order.ensures w ∙ laid_whole w c.args.stamp c.args.items.now c.args.codes.now few same)
