@@ -1,5 +1,5 @@
 -- The text of each reason.
-use Rattle.std.specs.Prelude.{ℕ, List, Some, None, Option, ⊤, codes}
+use Rattle.std.specs.Prelude.{ℕ, List, ⊤, codes}
 use Rattle.station.specs.declared.fault.HexFault.{HexFault}
 use Rattle.station.specs.declared.fault.HexFault.TheVariants.{Digit, Odd}
 use Rattle.station.specs.declared.fault.HexError.{HexError}
@@ -13,7 +13,6 @@ abbrev pub IsMemory : HexError → Type 0
 IsMemory (Fault f) = ⊥
 IsMemory (Memory e) = ⊤
 
--- of want of memory std has the words
-abbrev pub error_words : HexError → Option (List ℕ)
-error_words (Fault f) = Some (hex_reason f)
-error_words (Memory e) = None
+abbrev pub error_words : HexError → List ℕ
+error_words (Fault f) = hex_reason f
+error_words (Memory e) = codes "memory allocation failed"

@@ -42,12 +42,12 @@ pub enum HexError {
 }
 
 impl fmt::Display for HexError {
-    ghost output = { error_words };
+    ghost output = { λ error. Some (error_words error) };
 
     fn fmt<W: fmt::Write>(&self, f: &mut fmt::Formatter<W>) -> fmt::Result {
         match self {
             HexError::Fault(why) => write!(f, "{why}"),
-            HexError::Memory(why) => write!(f, "{why}"),
+            HexError::Memory(_) => f.write_str("memory allocation failed"),
         }
     }
 }
